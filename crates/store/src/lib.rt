@@ -1,0 +1,150 @@
+// Storing in a ring: an empty header, an entry with its bytes, the head byte.
+// Document 01, "The ring in battery memory". An entry is stored before the tail byte that shows it.
+// Each function is one pass over the bytes that it stores.
+use layout::Ring;
+use reason::Reason;
+use walk::Entry;
+ghost use mathlib.Core.Path.{_≡_};
+ghost use mathlib.Core.List.{_++_};
+ghost use Prim.Native.Nat.{_+_, _%_, _≤_, _<_};
+ghost use lib.ListN.{length, drop};
+ghost use Rattle.layout.specs.Bytes.{Sized};
+ghost use Rattle.store.specs.Store.{emptyHeader, made, madeAnswer, headBytes, stored, headMoved};
+
+// The answer of making a ring; the only refusal is BadBuffer.
+pub enum Made {
+    Ready,
+    Refused(Reason),
+}
+
+// The header of an empty ring of n slots.
+fn empty_header(n: usize) -> [u8; 16]
+    requires { ⌜ n < 256 ⌝ }
+    ensures { λ r. ⌜ r ≡ emptyHeader n ⌝ }
+{
+    [
+        Ring::EDITION,
+        n as u8,
+        0,
+        0,
+        0,
+        0,
+        0,
+        0,
+        0,
+        0,
+        0,
+        0,
+        0,
+        0,
+        0,
+        0,
+    ]
+}
+
+// Stores src at the front of the bytes.
+fn put_front(bytes: &mut [u8], src: &[u8])
+    requires { ⌜ length (now src) ≤ length (now bytes) ⌝ }
+    ensures { λ _. ⌜ now (bytes .exit) ≡ now (src .entry) ++ drop (length (now (src .entry))) (now (bytes .entry)) ⌝ }
+{
+    let mut i = 0;
+    while i < src.len() {
+        bytes[i] = src[i];
+        i += 1;
+    }
+}
+
+// Makes an empty ring in a buffer of a valid length.
+pub fn make(bytes: &mut [u8]) -> Made
+    ensures answer { λ r. ⌜ r ≡ madeAnswer (now (bytes .entry)) ⌝ }
+    ensures bytes { λ _. ⌜ now (bytes .exit) ≡ made (now (bytes .entry)) ⌝ }
+{
+    if bytes.len() < Ring::HEADER {
+        return Made::Refused(Reason::BadBuffer);
+    }
+    let n = (bytes.len() - Ring::HEADER) / Ring::SLOT;
+    if n < Ring::FEWEST {
+        return Made::Refused(Reason::BadBuffer);
+    }
+    if Ring::MOST < n {
+        return Made::Refused(Reason::BadBuffer);
+    }
+    if bytes.len() != Ring::HEADER + n * Ring::SLOT {
+        return Made::Refused(Reason::BadBuffer);
+    }
+    let header = empty_header(n);
+    put_front(bytes, &header);
+    Made::Ready
+}
+
+// An entry's head as bytes.
+fn head_bytes(entry: Entry) -> [u8; 24]
+    ensures { λ r. ⌜ r ≡ headBytes entry ⌝ }
+{
+    let number = entry.number;
+    let high = number / 4294967296;
+    let node = entry.node;
+    let handle = entry.handle;
+    let offset = entry.offset;
+    let length = entry.length;
+    let zero = entry.zero;
+    [
+        (number % 256) as u8,
+        (number / 256 % 256) as u8,
+        (number / 65536 % 256) as u8,
+        (number / 65536 / 256 % 256) as u8,
+        (high % 256) as u8,
+        (high / 256 % 256) as u8,
+        (high / 65536 % 256) as u8,
+        (high / 65536 / 256 % 256) as u8,
+        (node % 256) as u8,
+        (node / 256 % 256) as u8,
+        (node / 65536 % 256) as u8,
+        (node / 65536 / 256 % 256) as u8,
+        (handle % 256) as u8,
+        (handle / 256 % 256) as u8,
+        (handle / 65536 % 256) as u8,
+        (handle / 65536 / 256 % 256) as u8,
+        (offset % 256) as u8,
+        (offset / 256 % 256) as u8,
+        (offset / 65536 % 256) as u8,
+        (offset / 65536 / 256 % 256) as u8,
+        (length % 256) as u8,
+        (length / 256 % 256) as u8,
+        (zero % 256) as u8,
+        (zero / 256 % 256) as u8,
+    ]
+}
+
+// The tail slot after an entry of so many slots, taken round at N.
+fn tail_after(n: usize, slot: usize, slots: usize) -> usize
+    requires { ⌜ (0 < n) × (slot + slots < 65536) ⌝ }
+    ensures { λ r. ⌜ r ≡ (slot + slots) % n ⌝ }
+{
+    (slot + slots) % n
+}
+
+// Stores an entry with its bytes in its slots, and then the tail byte.
+pub fn store(bytes: &mut [u8], n: usize, entry: Entry, src: &[u8])
+    requires { ⌜ Sized (now bytes) n ⌝ }
+    requires { ⌜ (entry .slot < n) × (entry .length ≡ length (now src)) × (entry .length ≤ 4096) ⌝ }
+    ensures { λ _. ⌜ now (bytes .exit) ≡ stored (now (bytes .entry)) n entry (now (src .entry)) ⌝ }
+{
+    let slot = entry.slot as usize;
+    let slots = Ring::slots(entry.length);
+    let start = slot * Ring::SLOT;
+    let used = Ring::HEAD + src.len();
+    let head = head_bytes(entry);
+    layout::put_bytes(bytes, n, start, &head);
+    layout::put_bytes(bytes, n, start + Ring::HEAD, src);
+    layout::put_zeros(bytes, n, start + used, slots * Ring::SLOT - used);
+    bytes[3] = tail_after(n, slot, slots) as u8;
+}
+
+// Moves the head on to a slot.
+pub fn move_head(bytes: &mut [u8], slot: usize)
+    requires { ⌜ (16 ≤ length (now bytes)) × (slot < 256) ⌝ }
+    ensures { λ _. ⌜ now (bytes .exit) ≡ headMoved (now (bytes .entry)) slot ⌝ }
+{
+    bytes[2] = slot as u8;
+}
