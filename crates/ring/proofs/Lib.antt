@@ -1,0 +1,5 @@
+mod Making
+mod Free
+mod Storing
+mod Moving
+pub mod Laws
