@@ -22,24 +22,10 @@ fn empty_header(n: usize) -> [u8; 16]
     requires { ⌜ n < 256 ⌝ }
     ensures { λ r. ⌜ r ≡ emptyHeader n ⌝ }
 {
-    [
-        Ring::EDITION,
-        n as u8,
-        0,
-        0,
-        0,
-        0,
-        0,
-        0,
-        0,
-        0,
-        0,
-        0,
-        0,
-        0,
-        0,
-        0,
-    ]
+    let mut header = [0u8; 16];
+    header[0] = Ring::EDITION;
+    header[1] = n as u8;
+    header
 }
 
 // Stores src at the front of the bytes.
