@@ -8,6 +8,7 @@ ghost use mathlib.Core.Path.{_≡_};
 ghost use mathlib.Core.List.{_++_};
 ghost use Prim.Native.Nat.{_+_, _%_, _≤_, _<_};
 ghost use lib.ListN.{length, drop};
+ghost use Rattle.layout.specs.Sizes.{headerSize, mostSlots, largest};
 ghost use Rattle.layout.specs.Bytes.{Sized};
 ghost use Rattle.store.specs.Store.{emptyHeader, made, madeAnswer, headBytes, stored, headMoved};
 
@@ -19,7 +20,7 @@ pub enum Made {
 
 // The header of an empty ring of n slots.
 fn empty_header(n: usize) -> [u8; 16]
-    requires { ⌜ n < 256 ⌝ }
+    requires { ⌜ n ≤ mostSlots ⌝ }
     ensures { λ r. ⌜ r ≡ emptyHeader n ⌝ }
 {
     let mut header = [0u8; 16];
@@ -113,7 +114,7 @@ fn tail_after(n: usize, slot: usize, slots: usize) -> usize
 // Stores an entry with its bytes in its slots, and then the tail byte.
 pub fn store(bytes: &mut [u8], n: usize, entry: Entry, src: &[u8])
     requires { ⌜ Sized (now bytes) n ⌝ }
-    requires { ⌜ (entry .slot < n) × (entry .length ≡ length (now src)) × (entry .length ≤ 4096) ⌝ }
+    requires { ⌜ (entry .slot < n) × (entry .length ≡ length (now src)) × (entry .length ≤ largest) ⌝ }
     ensures { λ _. ⌜ now (bytes .exit) ≡ stored (now (bytes .entry)) n entry (now (src .entry)) ⌝ }
 {
     let slot = entry.slot as usize;
@@ -129,7 +130,7 @@ pub fn store(bytes: &mut [u8], n: usize, entry: Entry, src: &[u8])
 
 // Moves the head on to a slot.
 pub fn move_head(bytes: &mut [u8], slot: usize)
-    requires { ⌜ (16 ≤ length (now bytes)) × (slot < 256) ⌝ }
+    requires { ⌜ (headerSize ≤ length (now bytes)) × (slot ≤ mostSlots) ⌝ }
     ensures { λ _. ⌜ now (bytes .exit) ≡ headMoved (now (bytes .entry)) slot ⌝ }
 {
     bytes[2] = slot as u8;

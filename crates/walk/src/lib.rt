@@ -6,7 +6,7 @@ use reason::Reason;
 ghost use mathlib.Core.Path.{_≡_};
 ghost use Prim.Native.Nat.{_+_, _≤_, _<_};
 ghost use lib.ListN.{length, getD, take, drop, replicate};
-ghost use Rattle.layout.specs.Sizes.{mostEntries};
+ghost use Rattle.layout.specs.Sizes.{mostSlots, mostEntries, headSize, largest};
 ghost use Rattle.layout.specs.Bytes.{Sized, flat, round};
 ghost use Rattle.walk.specs.Header.{headerOf};
 ghost use Rattle.walk.specs.Entry.{headAt, entryAt, validFields, filler, dataOf};
@@ -18,7 +18,6 @@ ghost use Rattle.walk.specs.Walk.{
   readingOf,
   answerOf,
   noEntry,
-  Reading,
   unreadable,
 };
 
@@ -108,7 +107,7 @@ pub fn header_of(bytes: &[u8]) -> Header
 
 // The head that stands at byte p, of the entry that starts in a slot.
 fn head_at(bytes: &[u8], p: usize, slot: u32) -> Entry
-    requires { ⌜ p + 24 ≤ length (now bytes) ⌝ }
+    requires { ⌜ p + headSize ≤ length (now bytes) ⌝ }
     ensures { λ r. ⌜ r ≡ headAt (flat (now (bytes .entry))) p slot ⌝ }
     ensures { λ r. ⌜ r .length < 65536 ⌝ }
 {
@@ -165,7 +164,7 @@ pub fn valid_fields(entry: Entry) -> bool
 // The filler never crosses the ring's end, since a slot doesn't.
 pub fn filler_at(bytes: &[u8], n: usize, place: usize, length: u32) -> bool
     requires { ⌜ Sized (now bytes) n ⌝ }
-    requires { ⌜ (place < 1024) × (length < 65536) ⌝ }
+    requires { ⌜ (place < mostSlots + mostSlots) × (length < 65536) ⌝ }
     ensures { λ r. ⌜ r ≡ filler (round (now (bytes .entry)) n) place length ⌝ }
 {
     let full = Ring::slots(length) - 1;
@@ -181,7 +180,7 @@ pub fn filler_at(bytes: &[u8], n: usize, place: usize, length: u32) -> bool
 // One step of the walk.
 pub fn step_at(bytes: &[u8], ring: Ring, at: Cursor) -> Step
     requires { ⌜ Sized (now bytes) (ring .n) ⌝ }
-    requires { ⌜ at .place < 1024 ⌝ }
+    requires { ⌜ at .place < mostSlots + mostSlots ⌝ }
     ensures { λ r. ⌜ r ≡ stepAt (round (now (bytes .entry)) (ring .n)) (ring .n) at ⌝ }
 {
     let n = ring.n;
@@ -281,7 +280,7 @@ pub fn entry_byte(bytes: &[u8], n: usize, entry: Entry, i: usize) -> u8
 // Copies out an entry's bytes from byte `from` on, until the lent part is full.
 pub fn entry_bytes(bytes: &[u8], n: usize, entry: Entry, from: usize, out: &mut [u8])
     requires { ⌜ Sized (now bytes) n ⌝ }
-    requires { ⌜ (entry .slot < n) × (entry .length ≤ 4096) × (from + length (now out) ≤ entry .length) ⌝ }
+    requires { ⌜ (entry .slot < n) × (entry .length ≤ largest) × (from + length (now out) ≤ entry .length) ⌝ }
     ensures { λ _. ⌜ now (out .exit) ≡ take (length (now (out .entry))) (drop from (dataOf (round (now (bytes .entry)) n) entry)) ⌝ }
 {
     layout::take_bytes(
