@@ -15,6 +15,9 @@ ghost use Rattle.layout.specs.Bytes.{
   number8,
   bytesAt,
   zerosAt,
+  bytes2,
+  bytes4,
+  bytes8,
   put,
 };
 
@@ -154,4 +157,34 @@ pub fn put_zeros(bytes: &mut [u8], n: usize, p: usize, count: usize)
         bytes[Ring::HEADER + (p + i) % span] = 0;
         i += 1;
     }
+}
+
+// Stores a number as two bytes at place p of n slots, round the end: its lowest 16 bits.
+pub fn put_number2(bytes: &mut [u8], n: usize, p: usize, x: u64)
+    requires { ⌜ Sized (now bytes) n ⌝ }
+    requires { ⌜ p ≤ spanOf n + spanOf n ⌝ }
+    ensures { λ _. ⌜ now (bytes .exit) ≡ put (now (bytes .entry)) n p (bytes2 x) ⌝ }
+{
+    let two = [(x % 256) as u8, (x / 256 % 256) as u8];
+    put_bytes(bytes, n, p, &two);
+}
+
+// The same as four bytes: its lowest 32 bits.
+pub fn put_number4(bytes: &mut [u8], n: usize, p: usize, x: u64)
+    requires { ⌜ Sized (now bytes) n ⌝ }
+    requires { ⌜ p + 2 ≤ spanOf n + spanOf n ⌝ }
+    ensures { λ _. ⌜ now (bytes .exit) ≡ put (now (bytes .entry)) n p (bytes4 x) ⌝ }
+{
+    put_number2(bytes, n, p, x);
+    put_number2(bytes, n, p + 2, x / 65536);
+}
+
+// The same as eight bytes.
+pub fn put_number8(bytes: &mut [u8], n: usize, p: usize, x: u64)
+    requires { ⌜ Sized (now bytes) n ⌝ }
+    requires { ⌜ p + 6 ≤ spanOf n + spanOf n ⌝ }
+    ensures { λ _. ⌜ now (bytes .exit) ≡ put (now (bytes .entry)) n p (bytes8 x) ⌝ }
+{
+    put_number4(bytes, n, p, x);
+    put_number4(bytes, n, p + 4, x / 4294967296);
 }

@@ -21,7 +21,7 @@ use Rattle.walk.proofs.Rules.{Headed, head-same}
 use Rattle.walk.proofs.Walks.{Slots, walk-same}
 use Rattle.walk.proofs.Chain.{Chain, done, link, walk-of, chain-of, chain-join}
 use Rattle.walk.proofs.Readings.{Readable, headed-by, writes-same}
-use Rattle.store.specs.Store.{headBytes, entryBytes, tailAfter, stored}
+use Rattle.store.specs.Store.{nameBytes, rangeBytes, headBytes, entryBytes, tailAfter, stored}
 use Rattle.store.proofs.Stored.{head-length, entry-length}
 use Rattle.ring.specs.Ring.{Storable, grown, written}
 
@@ -35,7 +35,7 @@ module _ (e : Entry) (bs : List ℕ) (l : e .length ≡ length bs) (v : Valid e)
   fill = slotsOf (e .length) * slotSize - (headSize + e .length)
 
   enc-head : headAt (flat enc) 0 (e .slot) ≡ e
-  unfolding entryBytes headBytes bytes2 bytes4 bytes8
+  unfolding entryBytes headBytes nameBytes rangeBytes bytes2 bytes4 bytes8
   enc-head =
       let f = flat enc in
       let hi = e .number / 4294967296 in

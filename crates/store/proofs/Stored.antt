@@ -8,10 +8,10 @@ use Rattle.layout.specs.Sizes.{slotSize, headSize, slotsOf}
 use Rattle.layout.specs.Bytes.{bytes2, bytes4, bytes8, put}
 use Rattle.layout.proofs.Puts.{put-append}
 use Rattle.walk.specs.declared.Entry.{Entry}
-use Rattle.store.specs.Store.{headBytes, entryBytes, stored}
+use Rattle.store.specs.Store.{nameBytes, rangeBytes, headBytes, entryBytes, stored}
 
 pub head-length : (e : Entry) → length (headBytes e) ≡ headSize
-unfolding headBytes bytes2 bytes4 bytes8
+unfolding headBytes nameBytes rangeBytes bytes2 bytes4 bytes8
 head-length e = refl
 
 -- an entry's bytes fill its slots

@@ -40,11 +40,15 @@ madeAnswer r = pickMade (isMakeable (length r))
 
 -- ---- storing an entry
 
--- the table of an entry's head
+-- the table of an entry's head: bytes 0 to 15, and 16 to 23
+unfoldable pub nameBytes : Entry → List ℕ
+nameBytes e = bytes8 (e .number) ++ (bytes4 (e .node) ++ bytes4 (e .handle))
+
+unfoldable pub rangeBytes : Entry → List ℕ
+rangeBytes e = bytes4 (e .offset) ++ (bytes2 (e .length) ++ bytes2 (e .zero))
+
 unfoldable pub headBytes : Entry → List ℕ
-headBytes e =
-    bytes8 (e .number)
-    ++ (bytes4 (e .node) ++ (bytes4 (e .handle) ++ (bytes4 (e .offset) ++ (bytes2 (e .length) ++ bytes2 (e .zero)))))
+headBytes e = nameBytes e ++ rangeBytes e
 
 -- "the bytes, then zeros to the slot's end"
 unfoldable pub entryBytes : Entry → List ℕ → List ℕ

@@ -8,9 +8,18 @@ ghost use mathlib.Core.Path.{_≡_};
 ghost use mathlib.Core.List.{_++_};
 ghost use Prim.Native.Nat.{_+_, _%_, _≤_, _<_};
 ghost use lib.ListN.{length, drop};
-ghost use Rattle.layout.specs.Sizes.{headerSize, mostSlots, largest};
-ghost use Rattle.layout.specs.Bytes.{Sized};
-ghost use Rattle.store.specs.Store.{emptyHeader, made, madeAnswer, headBytes, stored, headMoved};
+ghost use Rattle.layout.specs.Sizes.{headerSize, mostSlots, largest, spanOf};
+ghost use Rattle.layout.specs.Bytes.{Sized, put};
+ghost use Rattle.store.specs.Store.{
+  emptyHeader,
+  made,
+  madeAnswer,
+  nameBytes,
+  rangeBytes,
+  headBytes,
+  stored,
+  headMoved,
+};
 
 // The answer of making a ring; the only refusal is BadBuffer.
 pub enum Made {
@@ -64,43 +73,36 @@ pub fn make(bytes: &mut [u8]) -> Made
     Made::Ready
 }
 
-// An entry's head as bytes.
-fn head_bytes(entry: Entry) -> [u8; 24]
-    ensures { λ r. ⌜ r ≡ headBytes entry ⌝ }
+// Stores the first 16 bytes of an entry's head at place p of n slots: number, node, handle.
+fn put_names(bytes: &mut [u8], n: usize, p: usize, entry: Entry)
+    requires { ⌜ Sized (now bytes) n ⌝ }
+    requires { ⌜ p ≤ spanOf n ⌝ }
+    ensures { λ _. ⌜ now (bytes .exit) ≡ put (now (bytes .entry)) n p (nameBytes entry) ⌝ }
 {
-    let number = entry.number;
-    let high = number / 4294967296;
-    let node = entry.node;
-    let handle = entry.handle;
-    let offset = entry.offset;
-    let length = entry.length;
-    let zero = entry.zero;
-    [
-        (number % 256) as u8,
-        (number / 256 % 256) as u8,
-        (number / 65536 % 256) as u8,
-        (number / 65536 / 256 % 256) as u8,
-        (high % 256) as u8,
-        (high / 256 % 256) as u8,
-        (high / 65536 % 256) as u8,
-        (high / 65536 / 256 % 256) as u8,
-        (node % 256) as u8,
-        (node / 256 % 256) as u8,
-        (node / 65536 % 256) as u8,
-        (node / 65536 / 256 % 256) as u8,
-        (handle % 256) as u8,
-        (handle / 256 % 256) as u8,
-        (handle / 65536 % 256) as u8,
-        (handle / 65536 / 256 % 256) as u8,
-        (offset % 256) as u8,
-        (offset / 256 % 256) as u8,
-        (offset / 65536 % 256) as u8,
-        (offset / 65536 / 256 % 256) as u8,
-        (length % 256) as u8,
-        (length / 256 % 256) as u8,
-        (zero % 256) as u8,
-        (zero / 256 % 256) as u8,
-    ]
+    layout::put_number8(bytes, n, p, entry.number);
+    layout::put_number4(bytes, n, p + 8, entry.node as u64);
+    layout::put_number4(bytes, n, p + 12, entry.handle as u64);
+}
+
+// Stores the last 8 bytes of an entry's head at place p of n slots: offset, length, zero.
+fn put_range(bytes: &mut [u8], n: usize, p: usize, entry: Entry)
+    requires { ⌜ Sized (now bytes) n ⌝ }
+    requires { ⌜ p ≤ spanOf n + 16 ⌝ }
+    ensures { λ _. ⌜ now (bytes .exit) ≡ put (now (bytes .entry)) n p (rangeBytes entry) ⌝ }
+{
+    layout::put_number4(bytes, n, p, entry.offset as u64);
+    layout::put_number2(bytes, n, p + 4, entry.length as u64);
+    layout::put_number2(bytes, n, p + 6, entry.zero as u64);
+}
+
+// Stores an entry's head at place p of n slots.
+fn put_head(bytes: &mut [u8], n: usize, p: usize, entry: Entry)
+    requires { ⌜ Sized (now bytes) n ⌝ }
+    requires { ⌜ p ≤ spanOf n ⌝ }
+    ensures { λ _. ⌜ now (bytes .exit) ≡ put (now (bytes .entry)) n p (headBytes entry) ⌝ }
+{
+    put_names(bytes, n, p, entry);
+    put_range(bytes, n, p + 16, entry);
 }
 
 // The tail slot after an entry of so many slots, taken round at N.
@@ -121,8 +123,7 @@ pub fn store(bytes: &mut [u8], n: usize, entry: Entry, src: &[u8])
     let slots = Ring::slots(entry.length);
     let start = slot * Ring::SLOT;
     let used = Ring::HEAD + src.len();
-    let head = head_bytes(entry);
-    layout::put_bytes(bytes, n, start, &head);
+    put_head(bytes, n, start, entry);
     layout::put_bytes(bytes, n, start + Ring::HEAD, src);
     layout::put_zeros(bytes, n, start + used, slots * Ring::SLOT - used);
     bytes[3] = tail_after(n, slot, slots) as u8;
