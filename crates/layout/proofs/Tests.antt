@@ -10,6 +10,10 @@ use lib.Dec.{ltb}
 use borrow.Author.Tests.{ltb-true, ltb-false, leb-true, le-leb, eqb-true, eq-eqb}
 use Rattle.layout.specs.Bytes.{both, isRingLength, Sized}
 
+-- a case that can't be: two constructors are never equal
+pub never {ℓ} : {A : Type ℓ} → _≡_ {A = ℕ} 0 1 → A
+never z = absurd (let w : ⊥ = omega arith in w)
+
 pub both-left : (a b : Bool) → both a b ≡ true → a ≡ true
 unfolding both
 both-left true b e = refl
@@ -26,7 +30,13 @@ not-true-false true k = absurd (k refl)
 not-true-false false k = refl
 
 pub true-not-false : (b : Bool) → b ≡ true → b ≡ false → ⊥
-true-not-false b p q = let z : true ≡ false = cc in let w : _≡_ {A = ℕ} 0 1 = cc in omega arith
+true-not-false b p q = never (cc)
+
+-- the second test may be taken for another where the first holds
+pub both-ext : (a b b′ : Bool) → (a ≡ true → b ≡ b′) → both a b ≡ both a b′
+unfolding both
+both-ext true b b′ k = k refl
+both-ext false b b′ k = refl
 
 by-test : (a b : ℕ) (t : Bool) → ltb a b ≡ t → (a < b) ⊎ (b ≤ a)
 by-test a b true e = inl (ltb-true a b e)

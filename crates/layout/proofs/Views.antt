@@ -5,7 +5,7 @@ use mathlib.Core.Path.{_≡_, refl, sym, ap, _∙_}
 use mathlib.Core.List.{List, [], _∷_, _++_}
 use mathlib.Core.Bool.{true}
 use native.Mathlib.Omega.{arith}
-use native.Mathlib.Nat.{add-zero, mod-lt, mod-eq-of-lt, mod-add-mod, add-mod-right, mul-add-mod-self-right, div-add-mod', mul-assoc, add-mul}
+use native.Mathlib.Nat.{add-zero, mod-lt, mod-eq-of-lt, mod-add-mod, mul-add-mod-self-right, div-add-mod', mul-assoc, add-mul}
 use lib.ListN.{length, getD, take, drop, length-drop}
 use lib.Seq.{ext-getD, length-take-le, getD-take, getD-drop}
 use borrow.Author.Tests.{eq-eqb}
@@ -128,11 +128,6 @@ pub in-ring : (r : List ℕ) (n p : ℕ) → Sized r n → headerSize + (p % spa
 in-ring r n p z =
     let l : 0 < spanOf n = omega (arith, z .low) in
     omega (arith, mod-lt p l, z .len)
-
--- a turn further stands the same byte
-pub round-turn : (r : List ℕ) (n p : ℕ) → round r n (p + spanOf n) ≡ round r n p
-unfolding round
-round-turn r n p = rw add-mod-right
 
 -- a run that doesn't cross the end is a run of the buffer
 pub round-flat : (r : List ℕ) (n p c : ℕ) → (p % spanOf n) + c ≤ spanOf n → Same (round r n) p (flat r) (headerSize + (p % spanOf n)) c

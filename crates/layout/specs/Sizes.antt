@@ -46,3 +46,7 @@ spanOf n = n * slotSize
 -- the least count of slots that holds 24 + length bytes
 abbrev pub slotsOf : ℕ → ℕ
 slotsOf length = (headSize + length + (slotSize - 1)) / slotSize
+
+-- the bytes that are left from there to the last slot's end
+abbrev pub fillerOf : ℕ → ℕ
+fillerOf length = slotsOf length * slotSize - (headSize + length)

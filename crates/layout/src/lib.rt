@@ -43,7 +43,7 @@ impl Ring {
 
     pub const MOST: usize = 255;
     // The most entries that a ring holds: one slot stays free.
-    pub const ENTRIES: usize = 254;
+    pub const ENTRIES: usize = Ring::MOST - 1;
     // An entry's bytes before its data.
     pub const HEAD: usize = 24;
     // The largest write.

@@ -10,10 +10,10 @@ use Rattle.layout.specs.Sizes.{slotSize, spanOf, mostEntries}
 use Rattle.layout.specs.Bytes.{round, Sized, put}
 use Rattle.layout.specs.declared.Ring.{Ring}
 use Rattle.walk.specs.declared.Entry.{Entry}
-use Rattle.walk.specs.Walk.{readable, readingOf, writeOf, writesBy, writesOf, slotsUsed, Rising}
+use Rattle.walk.specs.Walk.{readable, readingOf, written, writeOf, writesBy, writesOf, slotsUsed, Rising}
 use Rattle.walk.proofs.Readings.{reading-sound, reading-header, reading-true, used-slots, entries-few, entries-rise}
 use Rattle.store.specs.Store.{slotsFor, made, stored, headMoved}
-use Rattle.ring.specs.Ring.{emptyRing, headAfter, grown, shrunk, written, Storable, Alike}
+use Rattle.ring.specs.Ring.{emptyRing, slotAfter, grown, shrunk, Storable, Alike}
 use Rattle.ring.proofs.Making.{made-readable}
 use Rattle.ring.proofs.Free.{free-alike, alike-reading, alike-writing}
 use Rattle.ring.proofs.Storing.{next-readable, next-writes}
@@ -77,7 +77,7 @@ module _ (r : List ℕ) (g : Ring) (es : List Entry) (e : Entry) (bs : List ℕ)
 module _ (r : List ℕ) (g : Ring) (xs ks : List Entry) (q : readingOf r ≡ readable g (xs ++ ks)) where
   -- the ring with the head moved on past xs
   abbrev pub past : List ℕ
-  past = headMoved r (headAfter g (slotsUsed xs))
+  past = headMoved r (slotAfter g (slotsUsed xs))
 
   pub moved-reads : readingOf past ≡ readable (shrunk g (slotsUsed xs)) ks
   moved-reads = reading-true (moved-readable r g xs ks (reading-sound r g (xs ++ ks) q))

@@ -7,8 +7,8 @@ use native.Mathlib.Nat.{add-zero, sub-zero, mod-self}
 use lib.ListN.{length, drop, length-append, length-drop}
 use Rattle.layout.specs.Sizes.{headerSize}
 use Rattle.layout.specs.Bytes.{both, zerosAt, Sized}
-use Rattle.walk.specs.Header.{IsHeader, usedOf}
-use Rattle.walk.proofs.Rules.{Headed, header-headed}
+use Rattle.walk.specs.Header.{usedOf}
+use Rattle.walk.proofs.Rules.{IsHeader, Headed, header-headed}
 use Rattle.walk.proofs.Chain.{done}
 use Rattle.walk.proofs.Readings.{Readable}
 use Rattle.store.specs.Store.{slotsFor, emptyHeader, made}

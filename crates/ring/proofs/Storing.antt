@@ -8,22 +8,22 @@ use native.Mathlib.Omega.{arith}
 use native.Mathlib.Nat.{zero-add, le-refl, mod-eq-of-lt, mod-mod, mod-add-mod, sub-self}
 use lib.ListN.{length, set, replicate, length-set, getD-replicate, List·getD-append}
 use lib.Seq.{getD-set-same, getD-set-other, getD-append-add}
-use Rattle.layout.specs.Sizes.{headerSize, slotSize, spanOf, headSize, slotsOf}
+use Rattle.layout.specs.Sizes.{headerSize, slotSize, spanOf, headSize, slotsOf, fillerOf}
 use Rattle.layout.specs.Bytes.{flat, round, put, bytes2, bytes4, bytes8, bytesAt, Same}
 use Rattle.layout.specs.declared.Ring.{Ring}
 use Rattle.layout.proofs.Views.{same-part, same-then, bytes-same, bytes-are, zeros-same, zeros-are, slot-start, slot-round}
 use Rattle.layout.proofs.Numbers.{number2-of, number4-of, number8-of}
 use Rattle.layout.proofs.Puts.{length-put, put-header, put-old, put-new, put-place, set-header}
 use Rattle.walk.specs.declared.Entry.{Entry}
-use Rattle.walk.specs.Entry.{headAt, entryAt, Valid, filler, dataOf}
-use Rattle.walk.specs.Walk.{lastOf, writeOf}
-use Rattle.walk.proofs.Rules.{Headed, head-same}
+use Rattle.walk.specs.Entry.{headAt, entryAt, filler, dataOf}
+use Rattle.walk.specs.Walk.{lastOf, written, writeOf}
+use Rattle.walk.proofs.Rules.{Headed, Valid, valid-sound, head-same}
 use Rattle.walk.proofs.Walks.{Slots, walk-same}
 use Rattle.walk.proofs.Chain.{Chain, done, link, walk-of, chain-of, chain-join}
 use Rattle.walk.proofs.Readings.{Readable, headed-by, writes-same}
 use Rattle.store.specs.Store.{nameBytes, rangeBytes, headBytes, entryBytes, tailAfter, stored}
 use Rattle.store.proofs.Stored.{head-length, entry-length}
-use Rattle.ring.specs.Ring.{Storable, grown, written}
+use Rattle.ring.specs.Ring.{Storable, grown}
 
 -- ---- an entry's bytes, read back from wherever they stand
 
@@ -32,7 +32,7 @@ module _ (e : Entry) (bs : List ℕ) (l : e .length ≡ length bs) (v : Valid e)
   enc = entryBytes e bs
 
   abbrev fill : ℕ
-  fill = slotsOf (e .length) * slotSize - (headSize + e .length)
+  fill = fillerOf (e .length)
 
   enc-head : headAt (flat enc) 0 (e .slot) ≡ e
   unfolding entryBytes headBytes nameBytes rangeBytes bytes2 bytes4 bytes8
@@ -159,17 +159,17 @@ module _ (r : List ℕ) (g : Ring) (es : List Entry) (e : Entry) (bs : List ℕ)
 
   new-chain : Chain (round next n) n end (slotsOf (e .length)) (lastOf 0 es) (e ∷ [])
   new-chain =
-      let f = found e bs (w .bytes) (w .valid) (w .node) (w .handle) (round next n) n end (sym (w .slot)) next-new in
-      let z = found-filler e bs (w .bytes) (w .valid) (w .node) (w .handle) (round next n) n end (sym (w .slot)) next-new in
+      let f = found e bs (w .bytes) (valid-sound e (w .valid)) (w .node) (w .handle) (round next n) n end (sym (w .slot)) next-new in
+      let z = found-filler e bs (w .bytes) (valid-sound e (w .valid)) (w .node) (w .handle) (round next n) n end (sym (w .slot)) next-new in
       let rest : Chain (round next n) n (end + slotsOf (e .length)) (slotsOf (e .length) - slotsOf (e .length)) (e .number) [] = rw sub-self done in
-      link f (record { valid = w .valid; rising = w .rising; fits = le-refl _; filled = z }) rest
+      link f (record { valid = valid-sound e (w .valid); rising = w .rising; fits = le-refl _; filled = z }) rest
 
   pub next-readable : Readable next (grown g e) (es ++ e ∷ [])
   next-readable = record { headed = next-headed; chain = chain-join (slotsOf (e .length)) (e ∷ []) old-chain new-chain }
 
   new-write : writeOf (round next n) e ≡ written e bs
   new-write =
-      let d = found-data e bs (w .bytes) (w .valid) (w .node) (w .handle) (round next n) n end (sym (w .slot)) next-new in
+      let d = found-data e bs (w .bytes) (valid-sound e (w .valid)) (w .node) (w .handle) (round next n) n end (sym (w .slot)) next-new in
       let x = same-part (slot-round next n end (headSize + e .length) some-slots) headSize (e .length) (omega arith) in
       let y : dataOf (round next n) e ≡ bs =
       ap (λ (s : ℕ). bytesAt (round next n) (s * slotSize + headSize) (e .length)) (w .slot) ∙ sym (bytes-same (e .length) x) ∙ d in

@@ -3,6 +3,7 @@
 use Prim.Native.Nat.{ℕ, _+_, _-_, _*_, _%_, _^_, _<_}
 use mathlib.Core.Path.{_≡_}
 use mathlib.Core.List.{List}
+use mathlib.Core.Bool.{true}
 use lib.ListN.{length}
 use Rattle.layout.specs.Sizes.{headerSize, slotSize, slotsOf}
 use Rattle.layout.specs.Bytes.{flat, round, Same}
@@ -10,37 +11,32 @@ use Rattle.layout.specs.declared.Ring.{Ring}
 use Rattle.walk.specs.declared.Entry.{Entry}
 use Rattle.walk.specs.declared.Header.the-variants.{Good}
 use Rattle.walk.specs.Header.{headerOf}
-use Rattle.walk.specs.Entry.{Valid}
-use Rattle.walk.specs.Walk.{lastOf, Write}
+use Rattle.walk.specs.Entry.{validFields}
+use Rattle.walk.specs.Walk.{lastOf}
 
 -- head and tail 0
 abbrev pub emptyRing : ℕ → Ring
 emptyRing n = record { n = n; head = 0; used = 0 }
 
--- the tail slot: "its slots follow modulo N"
+-- the slot that is u slots after the head: "its slots follow modulo N"
+abbrev pub slotAfter : Ring → ℕ → ℕ
+slotAfter g u = (g .head + u) % g .n
+
 abbrev pub tailOf : Ring → ℕ
-tailOf g = (g .head + g .used) % g .n
+tailOf g = slotAfter g (g .used)
 
 -- with an entry's slots used too
 abbrev pub grown : Ring → Entry → Ring
 grown g e = record { n = g .n; head = g .head; used = g .used + slotsOf (e .length) }
 
--- the head slot after u slots have been left
-abbrev pub headAfter : Ring → ℕ → ℕ
-headAfter g u = (g .head + u) % g .n
-
 -- with the head moved on past u slots
 abbrev pub shrunk : Ring → ℕ → Ring
-shrunk g u = record { n = g .n; head = headAfter g u; used = g .used - u }
-
--- the write that an entry with bytes bs holds
-abbrev pub written : Entry → List ℕ → Write
-written e bs = record { number = e .number; node = e .node; handle = e .handle; offset = e .offset; bytes = bs }
+shrunk g u = record { n = g .n; head = slotAfter g u; used = g .used - u }
 
 -- what a writer sees to before it stores: the slot at the tail, valid fields that fit their bytes, room
 pub record Storable (g : Ring) (es : List Entry) (e : Entry) (bs : List ℕ) : Type 0 where
   pub slot : e .slot ≡ tailOf g
-  pub valid : Valid e
+  pub valid : validFields e ≡ true
   pub rising : lastOf 0 es < e .number
   pub bytes : e .length ≡ length bs
   pub node : e .node < 2 ^ 32

@@ -4,7 +4,7 @@ use mathlib.Core.Path.{_≡_, refl, sym}
 use mathlib.Core.List.{List, _++_}
 use native.Mathlib.Omega.{arith}
 use lib.ListN.{length, set, replicate, length-append, length-replicate}
-use Rattle.layout.specs.Sizes.{slotSize, headSize, slotsOf}
+use Rattle.layout.specs.Sizes.{slotSize, headSize, slotsOf, fillerOf}
 use Rattle.layout.specs.Bytes.{bytes2, bytes4, bytes8, put}
 use Rattle.layout.proofs.Puts.{put-append}
 use Rattle.walk.specs.declared.Entry.{Entry}
@@ -18,7 +18,7 @@ head-length e = refl
 pub entry-length : (e : Entry) (bs : List ℕ) → e .length ≡ length bs → length (entryBytes e bs) ≡ slotsOf (e .length) * slotSize
 unfolding entryBytes
 entry-length e bs l =
-    let fill = slotsOf (e .length) * slotSize - (headSize + e .length) in
+    let fill = fillerOf (e .length) in
     let a = length-append (headBytes e) (bs ++ replicate fill 0) in
     let b = length-append bs (replicate fill 0) in
     let d = length-replicate {A = ℕ} fill 0 in

@@ -4,7 +4,7 @@ use mathlib.Core.Bool.{Bool, true, false}
 use mathlib.Core.List.{List, _∷_, _++_}
 use lib.ListN.{length, set, replicate, drop}
 use Rattle.reason.specs.declared.Reason.the-variants.{BadBuffer}
-use Rattle.layout.specs.Sizes.{edition, headerSize, slotSize, headSize, slotsOf}
+use Rattle.layout.specs.Sizes.{edition, headerSize, slotSize, slotsOf, fillerOf}
 use Rattle.layout.specs.Bytes.{isRingLength, bytes2, bytes4, bytes8, put}
 use Rattle.walk.specs.declared.Entry.{Entry}
 use Rattle.store.specs.declared.Made.{Made}
@@ -52,7 +52,7 @@ headBytes e = nameBytes e ++ rangeBytes e
 
 -- "the bytes, then zeros to the slot's end"
 unfoldable pub entryBytes : Entry → List ℕ → List ℕ
-entryBytes e bs = headBytes e ++ (bs ++ replicate (slotsOf (e .length) * slotSize - (headSize + e .length)) 0)
+entryBytes e bs = headBytes e ++ (bs ++ replicate (fillerOf (e .length)) 0)
 
 -- the tail slot after an entry
 abbrev pub tailAfter : ℕ → Entry → ℕ

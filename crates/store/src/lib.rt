@@ -28,11 +28,11 @@ pub enum Made {
 }
 
 // The header of an empty ring of n slots.
-fn empty_header(n: usize) -> [u8; 16]
+fn empty_header(n: usize) -> [u8; Ring::HEADER]
     requires { ⌜ n ≤ mostSlots ⌝ }
     ensures { λ r. ⌜ r ≡ emptyHeader n ⌝ }
 {
-    let mut header = [0u8; 16];
+    let mut header = [0u8; Ring::HEADER];
     header[0] = Ring::EDITION;
     header[1] = n as u8;
     header

@@ -8,15 +8,15 @@ use native.Mathlib.Omega.{arith}
 use native.Mathlib.Nat.{add-zero, zero-add, sub-zero}
 use lib.ListN.{length}
 use Rattle.layout.specs.Sizes.{slotsOf}
-use Rattle.layout.proofs.Tests.{lt-or-le}
+use Rattle.layout.proofs.Tests.{lt-or-le, never}
 use Rattle.layout.proofs.Sizes.{slots-some}
 use Rattle.walk.specs.declared.Entry.{Entry}
 use Rattle.walk.specs.declared.Cursor.{Cursor}
 use Rattle.walk.specs.declared.Step.{Step}
 use Rattle.walk.specs.declared.Step.the-variants.{Found, Nothing}
 use Rattle.walk.specs.Entry.{entryAt}
-use Rattle.walk.specs.Walk.{IsEntry, stepOf, stepAt, pass, more, onFound, walk, slotsUsed, lastOf, Rising}
-use Rattle.walk.proofs.Rules.{step-sound, step-found}
+use Rattle.walk.specs.Walk.{stepOf, stepAt, pass, more, onFound, walk, slotsUsed, lastOf, Rising}
+use Rattle.walk.proofs.Rules.{IsEntry, valid-true, step-sound, step-found}
 use Rattle.walk.proofs.Walks.{walk-end, walk-step, cursor}
 
 pub data Chain (f : ℕ → ℕ) (n : ℕ) : ℕ → ℕ → ℕ → List Entry → Type 0 where
@@ -33,12 +33,12 @@ walk-of {f} {n} {s} {left} {last} (link {e = e} at is c) =
     walk-step f n (cursor s left last) (omega (arith, slots-some (e .length), is .fits)) ∙ rw q (ap (more e) (walk-of c))
 
 more-some : (e : Entry) (w : Option (List Entry)) (es : List Entry) → more e w ≡ some es → (ks : List Entry) × (es ≡ e ∷ ks) × (w ≡ some ks)
-more-some e none es q = let z : _≡_ {A = ℕ} 0 1 = cc in absurd (let w : ⊥ = omega arith in w)
+more-some e none es q = never (cc)
 more-some e (some ks) es q = (ks, (cc), refl)
 
 on-some : (x : Step) (k : Entry → Option (List Entry)) (es : List Entry) → onFound x k ≡ some es
     → (e : Entry) × (ks : List Entry) × (x ≡ Found e) × (es ≡ e ∷ ks) × (k e ≡ some ks)
-on-some Nothing k es q = let z : _≡_ {A = ℕ} 0 1 = cc in absurd (let w : ⊥ = omega arith in w)
+on-some Nothing k es q = never (cc)
 on-some (Found e) k es q = let w = more-some e (k e) es q in (e, w .0, refl, w .1, w .2)
 
 -- a walk that finds entries took a first step and went on
@@ -54,7 +54,7 @@ chain-of [] f n s left last q =
     ⊎-elim
     (λ l.
     let w = walk-some f n (cursor s left last) [] l q in
-    let z : _≡_ {A = ℕ} 0 1 = cc (w .3) in absurd (let x : ⊥ = omega arith in x))
+    never (cc (w .3)))
     (λ l. let z : left ≡ 0 = omega arith in rw z done)
     (lt-or-le 0 left)
 chain-of (x ∷ es) f n s left last q =
@@ -67,7 +67,7 @@ chain-of (x ∷ es) f n s left last q =
     ap (λ (e : Entry). walk f n (pass (cursor s left last) e)) (sym hx) ∙ w .4 ∙ ap some hk in
     let y = step-sound f (cursor s left last) (entryAt f n s) x (w .2 ∙ ap Found hx) in
     link (y .0) (rw (y .0) at (y .1)) (chain-of es f n (s + slotsOf (x .length)) (left - slotsOf (x .length)) (x .number) rest))
-    (λ l. let z : _≡_ {A = ℕ} 0 1 = cc (walk-none f n s left last (x ∷ es) l q) in absurd (let y : ⊥ = omega arith in y))
+    (λ l. never (cc (walk-none f n s left last (x ∷ es) l q)))
     (lt-or-le 0 left)
 
 -- ---- what a chain says of its entries
@@ -78,7 +78,7 @@ chain-used (link {e = e} at is c) = let u = chain-used c in omega (arith, is .fi
 
 pub chain-rising : {f : ℕ → ℕ} {n s left last : ℕ} {es : List Entry} → Chain f n s left last es → Rising last es
 chain-rising done = tt
-chain-rising (link at is c) = (is .rising, is .valid, chain-rising c)
+chain-rising (link at is c) = (is .rising, valid-true _ (is .valid), chain-rising c)
 
 -- an entry takes a slot at least
 pub used-length : (es : List Entry) → length es ≤ slotsUsed es

@@ -10,17 +10,17 @@ use lib.ListN.{length}
 use Rattle.layout.specs.Sizes.{slotSize, headSize, headerSize, slotsOf, mostEntries}
 use Rattle.layout.specs.Bytes.{flat, round, Same}
 use Rattle.layout.specs.declared.Ring.{Ring}
-use Rattle.layout.proofs.Tests.{lt-or-le}
+use Rattle.layout.proofs.Tests.{lt-or-le, never}
 use Rattle.layout.proofs.Views.{same-part, same-back, same-then, bytes-same, zeros-same, slot-round}
 use Rattle.layout.proofs.Puts.{sized-as}
 use Rattle.walk.specs.declared.Entry.{Entry}
 use Rattle.walk.specs.declared.Header.{Header}
 use Rattle.walk.specs.declared.Header.the-variants.{Good, Bad}
 use Rattle.walk.specs.declared.Opened.the-variants.{Readable as Opened·Readable}
-use Rattle.walk.specs.Header.{headIn, tailIn, usedOf, ringIn, IsHeader, headerOf}
+use Rattle.walk.specs.Header.{headIn, tailIn, usedOf, ringIn, headerOf}
 use Rattle.walk.specs.Entry.{dataOf}
 use Rattle.walk.specs.Walk.{walk, start, Reading, readable, unreadable, reads, readingBy, readingOf, answerOf, slotsUsed, Rising, writeOf}
-use Rattle.walk.proofs.Rules.{Headed, header-use, header-good, header-headed}
+use Rattle.walk.proofs.Rules.{IsHeader, Headed, header-use, header-good, header-headed}
 use Rattle.walk.proofs.Walks.{Slots, slots-rest}
 use Rattle.walk.proofs.Chain.{Chain, done, link, walk-of, chain-of, chain-used, chain-rising, used-length}
 
@@ -30,11 +30,11 @@ pub record Readable (r : List ℕ) (g : Ring) (es : List Entry) : Type 0 where
   pub chain : Chain (round r (g .n)) (g .n) (g .head) (g .used) 0 es
 
 reads-some : (g g′ : Ring) (w : Option (List Entry)) (es : List Entry) → reads g′ w ≡ readable g es → (g′ ≡ g) × (w ≡ some es)
-reads-some g g′ none es q = let z : _≡_ {A = ℕ} 0 1 = cc in absurd (let w : ⊥ = omega arith in w)
+reads-some g g′ none es q = never (cc)
 reads-some g g′ (some ks) es q = ((cc), (cc))
 
 reading-by : (r : List ℕ) (g : Ring) (es : List Entry) (h : Header) → headerOf r ≡ h → readingBy r h ≡ readable g es → Readable r g es
-reading-by r g es Bad e q = let z : _≡_ {A = ℕ} 0 1 = cc in absurd (let w : ⊥ = omega arith in w)
+reading-by r g es Bad e q = never (cc)
 reading-by r g es (Good g′) e q =
     let w = reads-some g g′ (walk (round r (g′ .n)) (g′ .n) (start g′)) es q in
     rw (← w .0)
@@ -54,7 +54,7 @@ reading-true {r} {g} {es} k = ap (readingBy r) (reading-header k) ∙ ap (reads 
 -- ---- the code's answer says which
 
 pub answer-readable : (x : Reading) (g : Ring) → answerOf x .opened ≡ Opened·Readable g → (es : List Entry) × (x ≡ readable g es)
-answer-readable unreadable g q = let z : _≡_ {A = ℕ} 0 1 = cc in absurd (let w : ⊥ = omega arith in w)
+answer-readable unreadable g q = never (cc)
 answer-readable (readable g′ es) g q = let e : g′ ≡ g = (cc) in (es, ap (λ (h : Ring). readable h es) e)
 
 -- ---- head, tail and the slots used

@@ -7,21 +7,29 @@ use native.Mathlib.Omega.{arith}
 use native.Mathlib.Nat.{mod-lt}
 use lib.ListN.{length}
 use borrow.Author.Tests.{eq-eqb, le-leb, lt-ltb, ltb-true, leb-true, eqb-true}
-use Rattle.layout.specs.Sizes.{headerSize, slotSize, headSize, slotsOf}
+use Rattle.layout.specs.Sizes.{edition, headerSize, slotSize, headSize, largest, numberLimit, fileEnd, slotsOf, fillerOf}
 use Rattle.layout.specs.Bytes.{flat, round, both, Sized, zerosAt, Same}
 use Rattle.layout.specs.declared.Ring.{Ring}
-use Rattle.layout.proofs.Tests.{both-left, both-right, not-true-false, sized-true, sized-sound}
+use Rattle.layout.proofs.Tests.{both-left, both-right, not-true-false, sized-true, sized-sound, never}
 use Rattle.layout.proofs.Views.{same-part, same-back, number2-same, number4-same, number8-same, zeros-same, slot-flat}
 use Rattle.walk.specs.declared.Entry.{Entry}
 use Rattle.walk.specs.declared.Cursor.{Cursor}
 use Rattle.walk.specs.declared.Step.the-variants.{Found, Nothing}
 use Rattle.walk.specs.declared.Header.{Header}
 use Rattle.walk.specs.declared.Header.the-variants.{Good, Bad}
-use Rattle.walk.specs.Header.{slotsIn, headIn, tailIn, isHeader, IsHeader, usedOf, ringIn, pickHeader, headerOf}
-use Rattle.walk.specs.Entry.{headAt, validFields, Valid, filler}
-use Rattle.walk.specs.Walk.{isEntry, IsEntry, pickStep, stepOf}
+use Rattle.walk.specs.Header.{slotsIn, headIn, tailIn, isHeader, usedOf, ringIn, pickHeader, headerOf}
+use Rattle.walk.specs.Entry.{headAt, validFields, filler}
+use Rattle.walk.specs.Walk.{isEntry, pickStep, stepOf}
 
 -- ---- the header
+
+-- `isHeader`, as facts
+pub record IsHeader (r : List ℕ) : Type 0 where
+  pub sized : Sized r (slotsIn r)
+  pub edition : flat r 0 ≡ edition
+  pub head : headIn r < slotsIn r
+  pub tail : tailIn r < slotsIn r
+  pub zeros : zerosAt (flat r) 4 12 ≡ true
 
 header-true : (r : List ℕ) → IsHeader r → isHeader r ≡ true
 unfolding isHeader both
@@ -53,7 +61,7 @@ header-good r h = rw (header-true r h)
 good-true : (b : Bool) (x : Header) (g : Ring) → pickHeader b x ≡ Good g → b ≡ true
 unfolding pickHeader
 good-true true x g e = refl
-good-true false x g e = let z : _≡_ {A = ℕ} 0 1 = cc in absurd (let w : ⊥ = omega arith in w)
+good-true false x g e = never (cc)
 
 -- what a header that is good says of the ring
 pub record Headed (r : List ℕ) (g : Ring) : Type 0 where
@@ -84,6 +92,16 @@ header-use r g q =
     rw e (header-headed r h)
 
 -- ---- an entry's head and fields
+
+-- `validFields`, as facts
+pub record Valid (e : Entry) : Type 0 where
+  pub some : 0 < e .number
+  pub below : e .number < numberLimit
+  pub node : 0 < e .node
+  pub bytes : 0 < e .length
+  pub most : e .length ≤ largest
+  pub zero : e .zero ≡ 0
+  pub end : e .offset + e .length ≤ fileEnd
 
 -- the same bytes are the same head
 pub head-same : {f : ℕ → ℕ} {p : ℕ} {g : ℕ → ℕ} {q c : ℕ} (slot : ℕ) → Same f p g q c → headSize ≤ c → headAt f p slot ≡ headAt g q slot
@@ -125,6 +143,13 @@ valid-false e k = not-true-false (validFields e) (λ t. k (valid-sound e t))
 
 -- ---- a step
 
+-- `isEntry`, as facts
+pub record IsEntry (f : ℕ → ℕ) (c : Cursor) (e : Entry) : Type 0 where
+  pub valid : Valid e
+  pub rising : c .last < e .number
+  pub fits : slotsOf (e .length) ≤ c .left
+  pub filled : filler f (c .place) (e .length) ≡ true
+
 module _ (f : ℕ → ℕ) (c : Cursor) (e : Entry) where
   entry-true : IsEntry f c e → isEntry f c e ≡ true
   unfolding isEntry both
@@ -153,7 +178,7 @@ module _ (f : ℕ → ℕ) (c : Cursor) (e : Entry) where
   found-true : (b : Bool) (e′ : Entry) → pickStep b e ≡ Found e′ → (b ≡ true) × (e ≡ e′)
   unfolding pickStep
   found-true true e′ q = (refl, (cc))
-  found-true false e′ q = let z : _≡_ {A = ℕ} 0 1 = cc in absurd (let w : ⊥ = omega arith in w)
+  found-true false e′ q = never (cc)
 
   -- a step finds the entry at its place or none
   pub step-sound : (e′ : Entry) → stepOf f c e ≡ Found e′ → (e ≡ e′) × IsEntry f c e
@@ -168,7 +193,7 @@ filler-flat r n s length k z e =
     let a = headSize + length - (k - 1) * slotSize in
     let h : a + (slotSize - a) ≤ slotSize = omega arith in
     let x : t * slotSize + a ≡ s * slotSize + (headSize + length) = omega arith in
-    let y : slotSize - a ≡ slotsOf length * slotSize - (headSize + length) = omega arith in
+    let y : slotSize - a ≡ fillerOf length = omega arith in
     zeros-same (slotSize - a) (same-back (same-part (slot-flat r n t z) a (slotSize - a) h))
     ∙ ap (λ (q : ℕ). zerosAt (round r n) q (slotSize - a)) x
     ∙ ap (zerosAt (round r n) (s * slotSize + (headSize + length))) y

@@ -4,13 +4,14 @@ use Prim.Native.Nat.{ℕ, zero, suc, _+_, _-_, _*_, _%_, _≤_, _<_}
 use mathlib.Core.Path.{_≡_, refl, sym, ap, _∙_}
 use mathlib.Core.List.{List, []}
 use mathlib.Core.Option.{Option, some}
-use mathlib.Core.Bool.{Bool, true, false}
+use mathlib.Core.Bool.{Bool}
 use native.Mathlib.Omega.{arith}
 use native.Mathlib.Nat.{mod-add-mod}
 use borrow.Author.Tests.{leb-true}
-use Rattle.layout.specs.Sizes.{slotSize, headSize, slotsOf}
-use Rattle.layout.specs.Bytes.{both, Same}
+use Rattle.layout.specs.Sizes.{slotSize, headSize, slotsOf, fillerOf}
+use Rattle.layout.specs.Bytes.{Same}
 use Rattle.layout.proofs.Views.{same-part, zeros-same}
+use Rattle.layout.proofs.Tests.{both-ext}
 use Rattle.layout.proofs.Sizes.{slots-some}
 use Rattle.walk.specs.declared.Entry.{Entry}
 use Rattle.walk.specs.declared.Cursor.{Cursor}
@@ -76,12 +77,7 @@ module _ (n : ℕ) (f : ℕ → ℕ) (s : ℕ) (g : ℕ → ℕ) (t left : ℕ) 
   entry-same l = ap (headAt f (s * slotSize)) (k .slot) ∙ head-same (t % n) (k .bytes) (omega arith)
 
   filler-same : (length : ℕ) → slotsOf length ≤ left → filler f s length ≡ filler g t length
-  filler-same length h = zeros-same _ (same-part (k .bytes) (headSize + length) (slotsOf length * slotSize - (headSize + length)) (omega arith))
-
-both-ext : (a b b′ : Bool) → (a ≡ true → b ≡ b′) → both a b ≡ both a b′
-unfolding both
-both-ext true b b′ k = k refl
-both-ext false b b′ k = refl
+  filler-same length h = zeros-same _ (same-part (k .bytes) (headSize + length) (fillerOf length) (omega arith))
 
 -- the places behind some slots
 pub slots-rest : {n : ℕ} {f : ℕ → ℕ} {s : ℕ} {g : ℕ → ℕ} {t left : ℕ} → Slots n f s g t left → (d m : ℕ) → d + m ≤ left → Slots n f (s + d) g (t + d) m

@@ -1,10 +1,9 @@
 -- An entry of a ring. Document 01, "The ring in battery memory", second table, and what makes its fields valid.
-use Prim.Native.Nat.{ℕ, _+_, _-_, _*_, _%_, _≤_, _<_}
-use mathlib.Core.Path.{_≡_}
+use Prim.Native.Nat.{ℕ, _+_, _*_, _%_}
 use mathlib.Core.List.{List}
 use mathlib.Core.Bool.{Bool}
 use lib.Dec.{eqb, ltb, leb}
-use Rattle.layout.specs.Sizes.{slotSize, headSize, largest, numberLimit, fileEnd, slotsOf}
+use Rattle.layout.specs.Sizes.{slotSize, headSize, largest, numberLimit, fileEnd, fillerOf}
 use Rattle.layout.specs.Bytes.{number2, number4, number8, bytesAt, zerosAt, both}
 use Rattle.walk.specs.declared.Entry.{Entry}
 
@@ -36,19 +35,9 @@ validFields e =
     (both (eqb (e .zero) 0)
     (leb (e .offset + e .length) fileEnd))))))
 
--- the same, as facts
-pub record Valid (e : Entry) : Type 0 where
-  pub some : 0 < e .number
-  pub below : e .number < numberLimit
-  pub node : 0 < e .node
-  pub bytes : 0 < e .length
-  pub most : e .length ≤ largest
-  pub zero : e .zero ≡ 0
-  pub end : e .offset + e .length ≤ fileEnd
-
 -- "then zeros to the slot's end", of an entry of that many bytes at slot s
 abbrev pub filler : (ℕ → ℕ) → ℕ → ℕ → Bool
-filler f s length = zerosAt f (s * slotSize + (headSize + length)) (slotsOf length * slotSize - (headSize + length))
+filler f s length = zerosAt f (s * slotSize + (headSize + length)) (fillerOf length)
 
 -- "24 on: the bytes"
 abbrev pub dataOf : (ℕ → ℕ) → Entry → List ℕ

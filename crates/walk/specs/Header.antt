@@ -1,12 +1,11 @@
 -- The header of a ring. Document 01, "The ring in battery memory", first table.
-use Prim.Native.Nat.{ℕ, _+_, _-_, _%_, _<_}
-use mathlib.Core.Path.{_≡_}
+use Prim.Native.Nat.{ℕ, _+_, _-_, _%_}
 use mathlib.Core.List.{List}
 use mathlib.Core.Bool.{Bool, true, false}
 use lib.ListN.{length}
 use lib.Dec.{eqb, ltb}
 use Rattle.layout.specs.Sizes.{edition}
-use Rattle.layout.specs.Bytes.{flat, both, isRingLength, Sized, zerosAt}
+use Rattle.layout.specs.Bytes.{flat, both, isRingLength, zerosAt}
 use Rattle.layout.specs.declared.Ring.{Ring}
 use Rattle.walk.specs.declared.Header.{Header}
 use Rattle.walk.specs.declared.Header.the-variants.{Good, Bad}
@@ -29,14 +28,6 @@ isHeader r =
     (both (ltb (headIn r) (slotsIn r))
     (both (ltb (tailIn r) (slotsIn r))
     (zerosAt (flat r) 4 12))))
-
--- the same, as facts
-pub record IsHeader (r : List ℕ) : Type 0 where
-  pub sized : Sized r (slotsIn r)
-  pub edition : flat r 0 ≡ edition
-  pub head : headIn r < slotsIn r
-  pub tail : tailIn r < slotsIn r
-  pub zeros : zerosAt (flat r) 4 12 ≡ true
 
 -- the slots from head to tail, modulo N: head equal to tail means empty
 abbrev pub usedOf : ℕ → ℕ → ℕ → ℕ

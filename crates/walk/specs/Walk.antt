@@ -1,6 +1,6 @@
 -- The walk from head to tail, and what a ring that can be read holds.
 -- Document 01, "The ring in battery memory", from "It walks from head".
-use Prim.Native.Nat.{ℕ, zero, suc, _+_, _-_, _≤_, _<_}
+use Prim.Native.Nat.{ℕ, zero, suc, _+_, _-_, _<_}
 use mathlib.Core.Path.{_≡_}
 use mathlib.Core.List.{List, [], _∷_, _++_, map}
 use mathlib.Core.Option.{Option, none, some}
@@ -20,7 +20,7 @@ use Rattle.walk.specs.declared.Header.the-variants.{Good, Bad}
 use Rattle.walk.specs.declared.Opened.the-variants.{Readable, Refused}
 use Rattle.walk.specs.declared.Walked.{Walked}
 use Rattle.walk.specs.Header.{headerOf}
-use Rattle.walk.specs.Entry.{entryAt, validFields, Valid, filler, dataOf}
+use Rattle.walk.specs.Entry.{entryAt, validFields, filler, dataOf}
 
 -- ---- one step
 
@@ -31,13 +31,6 @@ isEntry f c e =
     (both (ltb (c .last) (e .number))
     (both (leb (slotsOf (e .length)) (c .left))
     (filler f (c .place) (e .length))))
-
--- the same, as facts
-pub record IsEntry (f : ℕ → ℕ) (c : Cursor) (e : Entry) : Type 0 where
-  pub valid : Valid e
-  pub rising : c .last < e .number
-  pub fits : slotsOf (e .length) ≤ c .left
-  pub filled : filler f (c .place) (e .length) ≡ true
 
 unfoldable pub pickStep : Bool → Entry → Step
 pickStep true e = Found e
@@ -114,7 +107,7 @@ lastOf last (e ∷ es) = lastOf (e .number) es
 -- "rising numbers, valid fields": each entry is valid, and its number is above the one before
 abbrev pub Rising : ℕ → List Entry → Type 0
 Rising last [] = Unit {0}
-Rising last (e ∷ es) = (last < e .number) × Valid e × Rising (e .number) es
+Rising last (e ∷ es) = (last < e .number) × (validFields e ≡ true) × Rising (e .number) es
 
 -- ---- the code's answer
 
@@ -135,8 +128,12 @@ pub record Write : Type 0 where
   pub offset : ℕ
   pub bytes : List ℕ
 
+-- the write of an entry with those bytes
+abbrev pub written : Entry → List ℕ → Write
+written e bs = record { number = e .number; node = e .node; handle = e .handle; offset = e .offset; bytes = bs }
+
 abbrev pub writeOf : (ℕ → ℕ) → Entry → Write
-writeOf f e = record { number = e .number; node = e .node; handle = e .handle; offset = e .offset; bytes = dataOf f e }
+writeOf f e = written e (dataOf f e)
 
 abbrev pub writesBy : List ℕ → Reading → Option (List Write)
 writesBy r unreadable = none

@@ -123,7 +123,7 @@ fn head_at(bytes: &[u8], p: usize, slot: u32) -> Entry
 }
 
 // The head of the entry at a place.
-pub fn entry_at(bytes: &[u8], n: usize, place: usize) -> Entry
+fn entry_at(bytes: &[u8], n: usize, place: usize) -> Entry
     requires { ⌜ Sized (now bytes) n ⌝ }
     ensures { λ r. ⌜ r ≡ entryAt (round (now (bytes .entry)) n) n place ⌝ }
     ensures { λ r. ⌜ r .length < 65536 ⌝ }
@@ -133,7 +133,7 @@ pub fn entry_at(bytes: &[u8], n: usize, place: usize) -> Entry
 }
 
 // Whether an entry's fields keep the table.
-pub fn valid_fields(entry: Entry) -> bool
+fn valid_fields(entry: Entry) -> bool
     ensures { λ r. ⌜ r ≡ validFields entry ⌝ }
 {
     if entry.number == 0 {
@@ -162,7 +162,7 @@ pub fn valid_fields(entry: Entry) -> bool
 
 // Whether the rest of the last slot is zero, of an entry of that many bytes at a place.
 // The filler never crosses the ring's end, since a slot doesn't.
-pub fn filler_at(bytes: &[u8], n: usize, place: usize, length: u32) -> bool
+fn filler_at(bytes: &[u8], n: usize, place: usize, length: u32) -> bool
     requires { ⌜ Sized (now bytes) n ⌝ }
     requires { ⌜ (place < mostSlots + mostSlots) × (length < 65536) ⌝ }
     ensures { λ r. ⌜ r ≡ filler (round (now (bytes .entry)) n) place length ⌝ }

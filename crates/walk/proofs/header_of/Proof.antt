@@ -4,8 +4,7 @@ use native.Mathlib.Omega.{arith}
 use borrow.Author.Tests.{not-true, not-false}
 use borrow.Author.Needs.{needs}
 use Rattle.layout.proofs.Tests.{true-not-false}
-use Rattle.walk.specs.Header.{IsHeader}
-use Rattle.walk.proofs.Rules.{header-bad, header-good}
+use Rattle.walk.proofs.Rules.{IsHeader, header-bad, header-good}
 use Rattle.walk.proofs.header_of.Statement.{statement}
 use Rattle.walk.proofs.header_of.Tie as tie
 
