@@ -4,7 +4,7 @@ use mathlib.Core.Path.{_≡_, refl, sym, ap, _∙_}
 use mathlib.Core.Logic.{_≢_}
 use mathlib.Core.List.{List, [], _∷_, _++_, map}
 use native.Mathlib.Omega.{arith}
-use native.Mathlib.Nat.{zero-add, mod-lt, mod-mod, mod-add-mod}
+use native.Mathlib.Nat.{mod-lt, mod-mod, mod-add-mod}
 use lib.ListN.{length, length-set}
 use lib.Seq.{getD-set-same, getD-set-other}
 use Rattle.layout.specs.Sizes.{headerSize, slotSize}
@@ -16,14 +16,10 @@ use Rattle.walk.specs.declared.Entry.{Entry}
 use Rattle.walk.specs.Walk.{slotsUsed, writeOf}
 use Rattle.walk.proofs.Rules.{Headed}
 use Rattle.walk.proofs.Walks.{Slots, walk-same}
-use Rattle.walk.proofs.Chain.{Chain, walk-of, chain-of, chain-cut, chain-from}
+use Rattle.walk.proofs.Chain.{Chain, walk-of, chain-of, used-append, chain-cut, chain-from}
 use Rattle.walk.proofs.Readings.{Readable, used-slots, headed-by, tail-at, writes-same}
 use Rattle.store.specs.Store.{headMoved}
 use Rattle.ring.specs.Ring.{shrunk}
-
-used-append : (xs ks : List Entry) → slotsUsed (xs ++ ks) ≡ slotsUsed xs + slotsUsed ks
-used-append [] ks = sym (zero-add (slotsUsed ks))
-used-append (x ∷ xs) ks = omega (arith, used-append xs ks)
 
 module _ (r : List ℕ) (g : Ring) (xs ks : List Entry) (k : Readable r g (xs ++ ks)) where
   abbrev n : ℕ

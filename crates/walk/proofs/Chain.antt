@@ -85,6 +85,10 @@ pub used-length : (es : List Entry) → length es ≤ slotsUsed es
 used-length [] = omega arith
 used-length (e ∷ es) = omega (arith, slots-some (e .length), used-length es)
 
+pub used-append : (es ks : List Entry) → slotsUsed (es ++ ks) ≡ slotsUsed es + slotsUsed ks
+used-append [] ks = omega arith
+used-append (e ∷ es) ks = omega (arith, used-append es ks)
+
 -- ---- chains joined and cut
 
 -- a chain with another behind its tail
