@@ -1,0 +1,116 @@
+-- Tests over lists: joined, at a place, and one element more.
+use Prim.Native.Nat.{ℕ, _+_, _≤_, _<_}
+use mathlib.Core.Path.{_≡_, refl, sym, _∙_, ap}
+use mathlib.Core.Bool.{Bool, true, false, not}
+use mathlib.Core.List.{List, [], _∷_, _++_, append-assoc}
+use mathlib.Core.Logic.{_⊎_, inl, inr}
+use native.Mathlib.Numerals.{add-one}
+use borrow.Author.Tests.{lt-ltb, le-ltb}
+use lib.ListN.{length, take, getD, take-append-drop}
+use lib.Seq.{slice, take-suc, take-take}
+use lib.Dec.{ltb}
+use Rattle.layout.specs.Bytes.{both}
+use Rattle.layout.proofs.Tests.{both-left, both-right, lt-or-le}
+use Rattle.state.specs.Lists.{any, all, pairs, placeOf}
+use Rattle.state.proofs.Loops.{any-found, any-none}
+use Rattle.state.proofs.Finding.{each-at, each-true}
+
+both-assoc : (a b c : Bool) → both a (both b c) ≡ both (both a b) c
+unfolding both
+both-assoc true b c = refl
+both-assoc false b c = refl
+
+-- a fourth test crosses to the first
+both-cross : (a b c d : Bool) → both (both a b) (both c d) ≡ both (both a c) (both b d)
+unfolding both
+both-cross true true c d = refl
+both-cross true false true d = refl
+both-cross true false false d = refl
+both-cross false b c d = refl
+
+both-true : (b : Bool) → both b true ≡ b
+unfolding both
+both-true true = refl
+both-true false = refl
+
+both-false : (b : Bool) → both false b ≡ false
+unfolding both
+both-false b = refl
+
+both-yes : (b : Bool) → both true b ≡ b
+unfolding both
+both-yes b = refl
+
+pub both-intro : (a b : Bool) → a ≡ true → b ≡ true → both a b ≡ true
+unfolding both
+both-intro a b p q = rw (p, q)
+
+module _ {A : Type 0} (p : A → Bool) where
+  pub all-append : (xs ys : List A) → all p (xs ++ ys) ≡ both (all p xs) (all p ys)
+  unfolding both
+  all-append [] ys = refl
+  all-append (x ∷ xs) ys = ap (both (p x)) (all-append xs ys) ∙ both-assoc (p x) (all p xs) (all p ys)
+
+  pub all-always : ((x : A) → p x ≡ true) → (xs : List A) → all p xs ≡ true
+  all-always k [] = refl
+  all-always k (x ∷ xs) = both-intro (p x) (all p xs) (k x) (all-always k xs)
+
+  pub all-snoc : (xs : List A) (x : A) → all p xs ≡ true → p x ≡ true → all p (xs ++ x ∷ []) ≡ true
+  all-snoc xs x e k = all-append xs (x ∷ []) ∙ both-intro _ _ e (both-intro (p x) true k refl)
+
+  pub all-left : (xs ys : List A) → all p (xs ++ ys) ≡ true → all p xs ≡ true
+  all-left xs ys e = both-left _ _ (sym (all-append xs ys) ∙ e)
+
+  pub all-right : (xs ys : List A) → all p (xs ++ ys) ≡ true → all p ys ≡ true
+  all-right xs ys e = both-right _ _ (sym (all-append xs ys) ∙ e)
+
+  pub all-at : (d : A) (xs : List A) (i : ℕ) → all p xs ≡ true → i < length xs → p (getD xs i d) ≡ true
+  all-at d xs i e h = each-at (λ x. p x ≡ true) d xs i (each-true p xs e) h
+
+  -- one more of an array
+  pub all-more : (d : A) (l : List A) (i : ℕ) → i < length l → all p (take i l) ≡ true → p (getD l i d) ≡ true → all p (take (i + 1) l) ≡ true
+  all-more d l i h e k =
+      let w : take (i + 1) l ≡ take i l ++ getD l i d ∷ [] = rw add-one (take-suc l i d h) in
+      ap (all p) w ∙ all-snoc (take i l) (getD l i d) e k
+
+  -- none passes where all fail
+  pub none-all : (xs : List A) → not (any p xs) ≡ all (λ x. not (p x)) xs
+  none-all [] = refl
+  none-all (x ∷ xs) = at (p x) refl (none-all xs)
+    where
+      at : (b : Bool) → p x ≡ b → not (any p xs) ≡ all (λ x. not (p x)) xs → not (any p (x ∷ xs)) ≡ all (λ x. not (p x)) (x ∷ xs)
+      at true e k = rw e (sym (both-false (all (λ x. not (p x)) xs)))
+      at false e k = rw e (k ∙ sym (both-yes (all (λ x. not (p x)) xs)))
+
+  pub some-place : (xs : List A) → ltb (placeOf p xs) (length xs) ≡ any p xs
+  some-place xs = at (lt-or-le (placeOf p xs) (length xs))
+    where
+      at : (placeOf p xs < length xs) ⊎ (length xs ≤ placeOf p xs) → ltb (placeOf p xs) (length xs) ≡ any p xs
+      at (inl h) = rw (any-found p xs h, lt-ltb (placeOf p xs) (length xs) h)
+      at (inr h) = rw (any-none p xs h, le-ltb (placeOf p xs) (length xs) h)
+
+module _ {A : Type 0} (p : A → A → Bool) where
+  pub pairs-snoc : (xs : List A) (y : A) → pairs p (xs ++ y ∷ []) ≡ both (pairs p xs) (all (λ x. p x y) xs)
+  unfolding both
+  pairs-snoc [] y = refl
+  pairs-snoc (x ∷ xs) y =
+      ap (λ b. both b (pairs p (xs ++ y ∷ []))) (all-append (p x) xs (y ∷ []))
+      ∙ ap (both (both (all (p x) xs) (both (p x y) true))) (pairs-snoc xs y)
+      ∙ both-cross (all (p x) xs) (both (p x y) true) (pairs p xs) (all (λ x. p x y) xs)
+      ∙ ap (λ b. both (both (all (p x) xs) (pairs p xs)) (both b (all (λ x. p x y) xs))) (both-true (p x y))
+
+  pub pairs-left : (xs ys : List A) → pairs p (xs ++ ys) ≡ true → pairs p xs ≡ true
+  pairs-left [] ys e = refl
+  pairs-left (x ∷ xs) ys e = both-intro _ _ (all-left (p x) xs ys (both-left _ _ e)) (pairs-left xs ys (both-right (all (p x) (xs ++ ys)) _ e))
+
+  pub pairs-right : (xs ys : List A) → pairs p (xs ++ ys) ≡ true → pairs p ys ≡ true
+  pairs-right [] ys e = e
+  pairs-right (x ∷ xs) ys e = pairs-right xs ys (both-right (all (p x) (xs ++ ys)) _ e)
+
+  -- an element within: every one before it passes beside it
+  pub pairs-before : (xs ys : List A) (y : A) → pairs p (xs ++ y ∷ ys) ≡ true → all (λ x. p x y) xs ≡ true
+  pairs-before xs ys y e = both-right (pairs p xs) _ (sym (pairs-snoc xs y) ∙ pairs-left (xs ++ y ∷ []) ys (ap (pairs p) (append-assoc xs (y ∷ []) ys) ∙ e))
+
+-- the first elements of the first n
+pub take-split : {A : Type 0} (l : List A) (i n : ℕ) → i ≤ n → take n l ≡ take i l ++ slice i n l
+take-split l i n h = sym (take-append-drop i (take n l)) ∙ ap (_++ slice i n l) (take-take i n l h)

@@ -1,0 +1,4 @@
+pub mod Lists
+pub mod Moves
+pub mod Pins
+pub mod Asks
