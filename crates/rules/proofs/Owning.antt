@@ -1,0 +1,119 @@
+-- Each call's own refusals, as the order leaves them; and what a call that passed the judge may count on.
+-- one refusal, and what comes after it
+use Prim.Native.Nat.{ℕ, _+_, _-_, _≤_, _<_}
+use mathlib.Core.Path.{_≡_, refl, sym, _∙_, ap}
+use mathlib.Core.Bool.{Bool, true, not}
+use mathlib.Core.List.{List, map}
+use mathlib.Core.Option.{Option, none, some}
+use native.Mathlib.Omega.{arith}
+use borrow.Author.Tests.{leb-true, ltb-true}
+use lib.ListN.{length, take}
+use lib.Dec.{eqb, ltb}
+use Rattle.reason.specs.declared.Reason.{Reason}
+use Rattle.reason.specs.declared.Reason.the-variants.{NodeZero, BadLength, PastFileEnd, NoRoom, NoNumber, NotTheFlush, NoSuchPin, TooManyPins}
+use Rattle.layout.specs.Sizes.{mostEntries, numberLimit, largest, fileEnd, slotsOf}
+use Rattle.layout.specs.Bytes.{both, Sized}
+use Rattle.layout.specs.declared.Ring.{Ring}
+use Rattle.layout.proofs.Tests.{both-left, both-right}
+use Rattle.walk.specs.Walk.{slotsUsed}
+use Rattle.walk.proofs.Chain.{used-length}
+use Rattle.ring.proofs.Laws.{readable-facts}
+use Rattle.state.specs.declared.State.{State}
+use Rattle.state.specs.declared.Held.{Held}
+use Rattle.state.specs.Lists.{pick, all, listed, entryOf, phaseFits, RisingTo}
+use Rattle.state.specs.Pins.{hasPin}
+use Rattle.judge.specs.Fits.{nextFits}
+use Rattle.judge.proofs.Fitting.{list-length, holding-length, holding-entries, holding-rising, holding-below, holding-phases}
+use Rattle.judge.proofs.Rules.{fits-sound}
+use Rattle.rules.specs.Call.{write, pin, unpin, askEnd, report, takeTicket, askTicket, askTurn}
+use Rattle.rules.specs.Known.{Known}
+use Rattle.rules.specs.Refusals.{own}
+
+abbrev pub or : Bool → Reason → Option Reason → Option Reason
+or b why rest = pick b (some why) rest
+
+module _ (r : List ℕ) (g : Ring) (s : State) where
+  pub own-write : (node handle offset : ℕ) (bs : List ℕ) → own (write node handle offset bs) r g s
+      ≡ or (eqb node 0) NodeZero
+      (or (pick (eqb (length bs) 0) true (ltb largest (length bs))) BadLength
+      (or (ltb fileEnd (offset + length bs)) PastFileEnd
+      (or (eqb (s .next) numberLimit) NoNumber
+      (or (ltb (g .n - 1 - g .used) (slotsOf (length bs))) NoRoom none))))
+  unfolding both
+  own-write node handle offset bs = refl
+
+  pub own-pin : (node : ℕ) → own (pin node) r g s ≡ or (not (hasPin 0 (s .pins))) TooManyPins (or (eqb (s .next) numberLimit) NoNumber none)
+  unfolding both
+  own-pin node = refl
+
+  pub own-unpin : (number : ℕ) → own (unpin number) r g s ≡ or (not (both (ltb 0 number) (hasPin number (s .pins)))) NoSuchPin none
+  unfolding both
+  own-unpin number = refl
+
+  pub own-end : (node : ℕ) → own (askEnd node) r g s ≡ or (eqb node 0) NodeZero none
+  unfolding both
+  own-end node = refl
+
+  pub own-report : (number : ℕ) (good : Bool) → own (report number good) r g s ≡ or (not (both (ltb 0 (s .flush)) (eqb number (s .flush)))) NotTheFlush none
+  unfolding both
+  own-report number good = refl
+
+  pub own-ticket : own takeTicket r g s ≡ or (eqb (s .next) numberLimit) NoNumber none
+  unfolding both
+  own-ticket = refl
+
+  pub own-ask : (ticket node : ℕ) → own (askTicket ticket node) r g s ≡ none
+  unfolding both
+  own-ask ticket node = refl
+
+  pub own-turn : own askTurn r g s ≡ none
+  unfolding both
+  own-turn = refl
+
+-- ---- what is known of ring, state and held writes
+
+pub next-facts : (next flush : ℕ) → nextFits next flush ≡ true → (flush < next) × (next ≤ numberLimit)
+unfolding nextFits
+next-facts next flush e = (ltb-true _ _ (both-left _ _ e), leb-true _ _ (both-right (ltb flush next) _ e))
+
+pub record Sure (r : List ℕ) (s : State) (g : Ring) (count : ℕ) (hs : List Held) : Type 0 where
+  pub sized : Sized r (g .n)
+  pub head : g .head < g .n
+  pub free : g .used < g .n
+  pub few : count ≤ mostEntries
+  pub long : length hs ≡ count
+  -- entries take a slot at least
+  pub slots : slotsUsed (map entryOf hs) ≡ g .used
+  pub most : count ≤ g .used
+  pub next : s .next ≤ numberLimit
+  pub flush : s .flush < s .next
+  pub below : RisingTo (s .next) 0 hs
+  pub limit : RisingTo numberLimit 0 hs
+  pub phases : all phaseFits hs ≡ true
+
+pub sure : (r : List ℕ) (s : State) (g : Ring) (count : ℕ) (held : List Held) → Known r s g count held → Sure r s g count (take count held)
+sure r s g count held k =
+    let es = k .entries in
+    let f = readable-facts r g es (k .reading) in
+    let o = fits-sound es s (k .fit) in
+    let l = list-length (s .next) es (listed s) (o .list) in
+    let n = next-facts (s .next) (s .flush) (o .next) in
+    let m = used-length es in
+    let u = f .used in
+    let c = k .counted in
+    let e = f .few in
+    rw (k .front)
+    (record {
+      sized = f .sized;
+      head = f .head;
+      free = f .free;
+      few = omega arith;
+      long = holding-length es (listed s) l ∙ sym c;
+      slots = ap slotsUsed (holding-entries es (listed s) l) ∙ sym u;
+      most = omega arith;
+      next = n .1;
+      flush = n .0;
+      below = holding-below (s .next) es (listed s) 0 (f .rising) (o .list);
+      limit = holding-rising es (listed s) 0 (f .rising);
+      phases = holding-phases (s .next) es (listed s) (o .list);
+    })

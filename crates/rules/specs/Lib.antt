@@ -1,0 +1,4 @@
+pub mod Call
+pub mod Refusals
+pub mod Outcome
+pub mod Known
