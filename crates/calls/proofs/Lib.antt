@@ -1,3 +1,4 @@
 pub mod Plain
 pub mod Changing
 pub mod Opening
+pub mod Unique
