@@ -1,17 +1,17 @@
 -- What each return of write, unpin and report comes to: the calls that change the ring.
-use Prim.Native.Nat.{ℕ, _+_, _-_, _≤_, _<_}
+use Prim.Native.Nat.{ℕ, _+_, _≤_, _<_}
 use mathlib.Core.Path.{_≡_, refl, sym, _∙_, ap}
 use mathlib.Core.Bool.{Bool, true, false}
 use mathlib.Core.List.{List, [], _∷_, _++_, map}
 use mathlib.Core.Option.{Option, none, some}
 use native.Mathlib.Omega.{arith}
-use borrow.Author.Tests.{eq-eqb, ne-eqb, eqb-false, lt-ltb, le-ltb, ltb-false}
+use borrow.Author.Tests.{eq-eqb, ne-eqb, lt-ltb, le-ltb}
 use lib.ListN.{length, take, drop, set, length-map}
 use lib.Seq.{take-all, take-at}
 use lib.Dec.{eqb, ltb}
 use Rattle.reason.specs.declared.Reason.{Reason}
 use Rattle.reason.specs.declared.Reason.the-variants.{NotTheFlush, NoSuchPin}
-use Rattle.layout.specs.Sizes.{mostEntries, largest, fileEnd, numberLimit, slotsOf}
+use Rattle.layout.specs.Sizes.{mostEntries}
 use Rattle.layout.specs.Bytes.{both}
 use Rattle.layout.specs.declared.Ring.{Ring}
 use Rattle.layout.proofs.Tests.{never}
@@ -21,7 +21,7 @@ use Rattle.store.specs.Store.{stored, headMoved}
 use Rattle.ring.specs.Ring.{slotAfter}
 use Rattle.state.specs.declared.State.{State}
 use Rattle.state.specs.declared.Held.{Held}
-use Rattle.state.specs.Lists.{pick, all, mostPins, noPin, unflushed, phaseFits, entryOf, withNext, withFlush, withPins, withHeld}
+use Rattle.state.specs.Lists.{all, mostPins, noPin, unflushed, phaseFits, entryOf, withNext, withFlush, withPins, withHeld}
 use Rattle.state.specs.Moves.{good, bad, reported}
 use Rattle.state.specs.Pins.{staying, slotsLeft, pinPlace, hasPin}
 use Rattle.state.proofs.Loops.{any-found, any-none}
@@ -33,7 +33,7 @@ use Rattle.rules.specs.Refusals.{own}
 use Rattle.rules.specs.Outcome.{outcomeBy, says, refuses, newEntry, outcome}
 use Rattle.rules.specs.Known.{Known}
 use Rattle.rules.proofs.Judging.{Judges, judge-passes}
-use Rattle.rules.proofs.Owning.{own-write, own-unpin, own-report, or, sure}
+use Rattle.rules.proofs.Owning.{own-write, own-unpin, own-report, sure, Writable, writes-when}
 use Rattle.calls.specs.declared.May.{May}
 use Rattle.calls.specs.declared.May.the-variants.{Go, Refused}
 use Rattle.calls.specs.Answers.{mayOf}
@@ -62,43 +62,6 @@ both-none b = refl
 
 same-may : (a b : Reason) → _≡_ {A = May} (Refused a) (Refused b) → a ≡ b
 same-may a b e = cc
-
--- ---- what a write that isn't refused keeps
-
-pub record Writable (g : Ring) (s : State) (node offset length : ℕ) : Type 0 where
-  pub named : node ≡ 0 → ⊥
-  pub some : 0 < length
-  pub most : length ≤ largest
-  pub end : offset + length ≤ fileEnd
-  pub next : s .next ≡ numberLimit → ⊥
-  pub room : slotsOf length ≤ g .n - 1 - g .used
-
--- a refusal that isn't given
-or-none : (b : Bool) (why : Reason) (rest : Option Reason) → or b why rest ≡ none → (b ≡ false) × (rest ≡ none)
-or-none true why rest e = never (cc)
-or-none false why rest e = (refl, e)
-
-pick-false : (a b : Bool) → pick a true b ≡ false → (a ≡ false) × (b ≡ false)
-pick-false true b e = never (cc)
-pick-false false b e = (refl, e)
-
-writes-when : (g : Ring) (s : State) (node offset : ℕ) (bs : List ℕ) → own (write node 0 offset bs) [] g s ≡ none → Writable g s node offset (length bs)
-writes-when g s node offset bs e =
-    let a = or-none _ _ _ (sym (own-write [] g s node 0 offset bs) ∙ e) in
-    let b = or-none _ _ _ (a .1) in
-    let c = or-none _ _ _ (b .1) in
-    let d = or-none _ _ _ (c .1) in
-    let f = or-none _ _ _ (d .1) in
-    let l = pick-false _ _ (b .0) in
-    let n = eqb-false (length bs) 0 (l .0) in
-    record {
-      named = eqb-false node 0 (a .0);
-      some = omega (arith, n);
-      most = ltb-false largest (length bs) (l .1);
-      end = ltb-false fileEnd (offset + length bs) (c .0);
-      next = eqb-false (s .next) numberLimit (d .0);
-      room = ltb-false (g .n - 1 - g .used) (slotsOf (length bs)) (f .0);
-    }
 
 module _ (r : List ℕ) (s : State) (g : Ring) (count : ℕ) (held : List Held) (k : Known r s g count held) where
   -- ---- unpin

@@ -1,18 +1,18 @@
 -- No two different outcomes meet a call's promise. Document 01, "How firmly each answer is tied down".
+-- ---- a refusal's number tells its reason, and is never 0
 use Prim.Native.Nat.{ℕ, _<_}
 use mathlib.Core.Path.{_≡_, refl, sym, _∙_, ap}
-use mathlib.Core.Bool.{Bool}
 use mathlib.Core.List.{List, [], _∷_}
-use mathlib.Core.Option.{Option, none, some}
+use mathlib.Core.Option.{Option, some}
 use native.Mathlib.Omega.{arith}
 use lib.Dec.{eqb}
 use Rattle.reason.specs.declared.Reason.{Reason}
 use Rattle.reason.specs.declared.Reason.the-variants.{NodeZero, BadLength, PastFileEnd, NoRoom, NoNumber, FlushUnderWay, NotTheFlush, Unreadable, NoSuchPin, TooManyPins, BadBuffer, StateUnfit}
 use Rattle.reason.specs.Reason.{numberOf}
 use Rattle.state.specs.declared.State.{State}
-use Rattle.rules.specs.Call.{Call, makeRing, reopenRing, write, pin, unpin, askEnd, report, takeTicket, askTicket, askTurn}
+use Rattle.rules.specs.Call.{Call}
 use Rattle.rules.specs.Refusals.{order, first}
-use Rattle.rules.specs.Outcome.{Said, says, refuses, outcomeBy, outcome}
+use Rattle.rules.specs.Outcome.{says, refuses, outcomeBy, outcome}
 use Rattle.calls.specs.declared.Numbered.{Numbered}
 use Rattle.calls.specs.declared.Numbered.the-variants as numbered
 use Rattle.calls.specs.declared.NumberedOut.{NumberedOut}
@@ -26,8 +26,6 @@ use Rattle.calls.specs.declared.Asked.the-variants as asked
 use Rattle.calls.specs.declared.Turn.{Turn}
 use Rattle.calls.specs.declared.Turn.the-variants as turn
 use Rattle.calls.specs.Answers.{saidNumber, saidDone, saidEnd, saidTicket, saidTurn}
-
--- ---- a refusal's number tells its reason, and is never 0
 
 numbered-back : (w : Reason) → first (λ v. eqb (numberOf v) (numberOf w)) order ≡ some w
 numbered-back NodeZero = refl

@@ -3,13 +3,19 @@
 use Prim.Native.Nat.{ℕ, _+_}
 use mathlib.Core.Path.{_≡_}
 use mathlib.Core.List.{List, [], _∷_, _++_, map}
-use lib.ListN.{take, replicate}
+use mathlib.Core.Bool.{true}
+use lib.ListN.{take, replicate, getD}
 use Rattle.layout.specs.Sizes.{slotsOf}
 use Rattle.layout.specs.declared.Ring.{Ring}
 use Rattle.walk.specs.declared.Entry.{Entry}
 use Rattle.walk.specs.Walk.{Reading, readable, unreadable, readingOf, lastOf}
 use Rattle.store.specs.Store.{made, stored}
 use Rattle.ring.specs.Ring.{tailOf}
+use Rattle.state.specs.declared.State.{State}
+use Rattle.state.specs.declared.Pin.{Pin}
+use Rattle.state.specs.Lists.{noPin, noListed}
+use Rattle.rules.specs.Call.{pin, unpin, report}
+use Rattle.rules.specs.Outcome.{Outcome, outcome}
 
 pub record Case : Type 0 where
   pub printed : List ℕ
@@ -58,6 +64,54 @@ firstWrite =
       given = firstWritten empty18 (readingOf empty18);
     }
 
+-- Write 1, pin 2 (mark 1), flush 3, good: write 1 is Flushed and held. A pin 4 has mark 4. Unpin 2: write 1 leaves.
+-- Each call of the case starts from the ring and the state that the one before it printed. Write 1 is 232 bytes long, so that it has no filler.
+
+abbrev written18 : List ℕ
+written18 =
+    0x01 ∷ 0x12 ∷ 0x00 ∷ 0x01 ∷ (replicate 12 0
+    ++ (0x01 ∷ 0x00 ∷ 0x00 ∷ 0x00 ∷ 0x00 ∷ 0x00 ∷ 0x00 ∷ 0x00
+    ∷ 0x07 ∷ 0x00 ∷ 0x00 ∷ 0x00
+    ∷ 0x03 ∷ 0x00 ∷ 0x00 ∷ 0x00
+    ∷ 0x02 ∷ 0x00 ∷ 0x00 ∷ 0x00
+    ∷ 0xE8 ∷ 0x00 ∷ 0x00 ∷ 0x00
+    ∷ (replicate 232 0x4E ++ replicate 4352 0xAA)))
+
+abbrev pinOf : ℕ → ℕ → Pin
+pinOf number mark = record { number = number; mark = mark; node = 7 }
+
+-- a state that lists write 1 in one of the four states, with two pins at most
+abbrev stateOf : ℕ → ℕ → ℕ → Pin → Pin → State
+stateOf next flush phase p q =
+    record {
+      next = next;
+      flush = flush;
+      count = 1;
+      writes = record { number = 1; phase = phase } ∷ replicate 253 noListed;
+      pins = p ∷ q ∷ replicate 14 noPin;
+    }
+
+-- what is said; next, flush and count; the first write's state of the four; two pins' numbers and marks; the ring's head
+abbrev shown : Outcome → List ℕ
+shown o =
+    o .said .refusal ∷ (o .said .values
+    ++ (o .state .next ∷ o .state .flush ∷ o .state .count ∷ getD (o .state .writes) 0 noListed .phase
+    ∷ getD (o .state .pins) 0 noPin .number ∷ getD (o .state .pins) 0 noPin .mark
+    ∷ getD (o .state .pins) 1 noPin .number ∷ getD (o .state .pins) 1 noPin .mark ∷ getD (o .ring) 2 0 ∷ []))
+
+abbrev pinTaken : Case
+pinTaken = record { printed = 0 ∷ 2 ∷ 3 ∷ 0 ∷ 1 ∷ 0 ∷ 2 ∷ 1 ∷ 0 ∷ 0 ∷ 0 ∷ []; given = shown (outcome (pin 7) written18 (stateOf 2 0 0 noPin noPin)) }
+
+-- the flush's start has made the write In flight under number 3
+abbrev pinHolds : Case
+pinHolds = record { printed = 0 ∷ 4 ∷ 0 ∷ 1 ∷ 2 ∷ 2 ∷ 1 ∷ 0 ∷ 0 ∷ 0 ∷ []; given = shown (outcome (report 3 true) written18 (stateOf 4 3 1 (pinOf 2 1) noPin)) }
+
+abbrev pinAgain : Case
+pinAgain = record { printed = 0 ∷ 4 ∷ 5 ∷ 0 ∷ 1 ∷ 2 ∷ 2 ∷ 1 ∷ 4 ∷ 4 ∷ 0 ∷ []; given = shown (outcome (pin 7) written18 (stateOf 4 0 2 (pinOf 2 1) noPin)) }
+
+abbrev pinEnded : Case
+pinEnded = record { printed = 0 ∷ 5 ∷ 0 ∷ 0 ∷ 0 ∷ 0 ∷ 0 ∷ 4 ∷ 4 ∷ 1 ∷ []; given = shown (outcome (unpin 2) written18 (stateOf 5 0 2 (pinOf 2 1) (pinOf 4 4))) }
+
 -- the list: later starred cases are added here
 abbrev pub starred : List Case
-starred = lengths ∷ emptyHeader18 ∷ firstWrite ∷ []
+starred = lengths ∷ emptyHeader18 ∷ firstWrite ∷ pinTaken ∷ pinHolds ∷ pinAgain ∷ pinEnded ∷ []

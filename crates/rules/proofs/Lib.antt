@@ -1,3 +1,6 @@
 pub mod Judging
 pub mod Owning
 pub mod Order
+pub mod Fit
+pub mod Standing
+pub mod Staying

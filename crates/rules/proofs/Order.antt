@@ -1,19 +1,18 @@
 -- A reason is given exactly when its row applies and no earlier one does. Document 01, "When the box says no".
+-- the order, in the paper's numbers
 use Prim.Native.Nat.{ℕ}
-use mathlib.Core.Path.{_≡_, refl, sym, _∙_, ap}
+use mathlib.Core.Path.{_≡_, refl, _∙_, ap}
 use mathlib.Core.Bool.{Bool, true, false}
 use mathlib.Core.List.{List, [], _∷_, _++_, map}
 use mathlib.Core.Option.{Option, none, some}
-use Rattle.layout.specs.Bytes.{both}
-use Rattle.layout.proofs.Tests.{never, both-left, both-right}
+use Rattle.layout.proofs.Tests.{never}
 use Rattle.reason.specs.declared.Reason.{Reason}
 use Rattle.reason.specs.Reason.{numberOf}
 use Rattle.state.specs.declared.State.{State}
-use Rattle.state.specs.Lists.{pick, any}
+use Rattle.state.specs.Lists.{any}
 use Rattle.rules.specs.Call.{Call}
 use Rattle.rules.specs.Refusals.{applies, order, first, refusalOf}
 
--- the order, in the paper's numbers
 pub order-printed : map numberOf order ≡ 8 ∷ 12 ∷ 1 ∷ 2 ∷ 3 ∷ 6 ∷ 7 ∷ 9 ∷ 10 ∷ 5 ∷ 4 ∷ 11 ∷ []
 order-printed = refl
 

@@ -2,11 +2,11 @@
 -- one refusal, and what comes after it
 use Prim.Native.Nat.{ℕ, _+_, _-_, _≤_, _<_}
 use mathlib.Core.Path.{_≡_, refl, sym, _∙_, ap}
-use mathlib.Core.Bool.{Bool, true, not}
-use mathlib.Core.List.{List, map}
+use mathlib.Core.Bool.{Bool, true, false, not}
+use mathlib.Core.List.{List, [], map}
 use mathlib.Core.Option.{Option, none, some}
 use native.Mathlib.Omega.{arith}
-use borrow.Author.Tests.{leb-true, ltb-true}
+use borrow.Author.Tests.{leb-true, ltb-true, ltb-false, eqb-false}
 use lib.ListN.{length, take}
 use lib.Dec.{eqb, ltb}
 use Rattle.reason.specs.declared.Reason.{Reason}
@@ -14,7 +14,7 @@ use Rattle.reason.specs.declared.Reason.the-variants.{NodeZero, BadLength, Past
 use Rattle.layout.specs.Sizes.{mostEntries, numberLimit, largest, fileEnd, slotsOf}
 use Rattle.layout.specs.Bytes.{both, Sized}
 use Rattle.layout.specs.declared.Ring.{Ring}
-use Rattle.layout.proofs.Tests.{both-left, both-right}
+use Rattle.layout.proofs.Tests.{never, both-left, both-right}
 use Rattle.walk.specs.Walk.{slotsUsed}
 use Rattle.walk.proofs.Chain.{used-length}
 use Rattle.ring.proofs.Laws.{readable-facts}
@@ -69,6 +69,43 @@ module _ (r : List ℕ) (g : Ring) (s : State) where
   pub own-turn : own askTurn r g s ≡ none
   unfolding both
   own-turn = refl
+
+-- ---- what a write that isn't refused keeps
+
+pub record Writable (g : Ring) (s : State) (node offset length : ℕ) : Type 0 where
+  pub named : node ≡ 0 → ⊥
+  pub some : 0 < length
+  pub most : length ≤ largest
+  pub end : offset + length ≤ fileEnd
+  pub next : s .next ≡ numberLimit → ⊥
+  pub room : slotsOf length ≤ g .n - 1 - g .used
+
+-- a refusal that isn't given
+or-none : (b : Bool) (why : Reason) (rest : Option Reason) → or b why rest ≡ none → (b ≡ false) × (rest ≡ none)
+or-none true why rest e = never (cc)
+or-none false why rest e = (refl, e)
+
+pub pick-false : (a b : Bool) → pick a true b ≡ false → (a ≡ false) × (b ≡ false)
+pick-false true b e = never (cc)
+pick-false false b e = (refl, e)
+
+pub writes-when : (g : Ring) (s : State) (node offset : ℕ) (bs : List ℕ) → own (write node 0 offset bs) [] g s ≡ none → Writable g s node offset (length bs)
+writes-when g s node offset bs e =
+    let a = or-none _ _ _ (sym (own-write [] g s node 0 offset bs) ∙ e) in
+    let b = or-none _ _ _ (a .1) in
+    let c = or-none _ _ _ (b .1) in
+    let d = or-none _ _ _ (c .1) in
+    let f = or-none _ _ _ (d .1) in
+    let l = pick-false _ _ (b .0) in
+    let n = eqb-false (length bs) 0 (l .0) in
+    record {
+      named = eqb-false node 0 (a .0);
+      some = omega (arith, n);
+      most = ltb-false largest (length bs) (l .1);
+      end = ltb-false fileEnd (offset + length bs) (c .0);
+      next = eqb-false (s .next) numberLimit (d .0);
+      room = ltb-false (g .n - 1 - g .used) (slotsOf (length bs)) (f .0);
+    }
 
 -- ---- what is known of ring, state and held writes
 
