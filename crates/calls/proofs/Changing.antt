@@ -1,5 +1,5 @@
 -- What each return of write, unpin and report comes to: the calls that change the ring.
-use Prim.Native.Nat.{ℕ, _+_, _≤_, _<_}
+use Prim.Native.Nat.{ℕ, _+_, _≤_}
 use mathlib.Core.Path.{_≡_, refl, sym, _∙_, ap}
 use mathlib.Core.Bool.{Bool, true, false}
 use mathlib.Core.List.{List, [], _∷_, _++_, map}
@@ -7,7 +7,7 @@ use mathlib.Core.Option.{Option, none, some}
 use native.Mathlib.Omega.{arith}
 use borrow.Author.Tests.{eq-eqb, ne-eqb, lt-ltb, le-ltb}
 use lib.ListN.{length, take, drop, set, length-map}
-use lib.Seq.{take-all, take-at}
+use lib.Seq.{take-at}
 use lib.Dec.{eqb, ltb}
 use Rattle.reason.specs.declared.Reason.{Reason}
 use Rattle.reason.specs.declared.Reason.the-variants.{NotTheFlush, NoSuchPin}
@@ -24,10 +24,9 @@ use Rattle.state.specs.declared.Held.{Held}
 use Rattle.state.specs.Lists.{all, mostPins, noPin, unflushed, phaseFits, entryOf, withNext, withFlush, withPins, withHeld}
 use Rattle.state.specs.Moves.{good, bad, reported}
 use Rattle.state.specs.Pins.{staying, slotsLeft, pinPlace, hasPin}
-use Rattle.state.proofs.Loops.{any-found, any-none}
-use Rattle.state.proofs.Finding.{place-le}
-use Rattle.state.proofs.Pairs.{both-intro}
+use Rattle.state.proofs.Bools.{both-intro, no-both, both-no}
 use Rattle.state.proofs.Reports.{Event, isGood, isBad, report-entries, report-fits}
+use Rattle.state.proofs.PinTable.{place-is, place-none, place-some}
 use Rattle.rules.specs.Call.{write, unpin, report}
 use Rattle.rules.specs.Refusals.{own}
 use Rattle.rules.specs.Outcome.{outcomeBy, says, refuses, newEntry, outcome}
@@ -47,19 +46,6 @@ judges-unpin number = record { reads = refl; fits = refl }
 pub judges-report : (number : ℕ) (good : Bool) → Judges (report number good)
 judges-report number good = record { reads = refl; fits = refl }
 
-both-false : (b : Bool) → both b false ≡ false
-unfolding both
-both-false true = refl
-both-false false = refl
-
-both-true : (b : Bool) → both true b ≡ b
-unfolding both
-both-true b = refl
-
-both-none : (b : Bool) → both false b ≡ false
-unfolding both
-both-none b = refl
-
 same-may : (a b : Reason) → _≡_ {A = May} (Refused a) (Refused b) → a ≡ b
 same-may a b e = cc
 
@@ -71,35 +57,19 @@ module _ (r : List ℕ) (s : State) (g : Ring) (count : ℕ) (held : List Held) 
     no-pin e = sym (judge-passes (unpin number) (judges-unpin number) r s g count held k ∙ rw (own-unpin r g s number, e))
 
     pub unpin-zero : number ≡ 0 → outcomeBy (refuses NoSuchPin) s r ≡ outcome (unpin number) r s
-    unpin-zero z = no-pin (rw z (both-none (hasPin 0 (s .pins))))
+    unpin-zero z = no-pin (rw z (no-both (hasPin 0 (s .pins))))
 
     module _ (place : ℕ) (l : length (s .pins) ≡ mostPins) (e : place ≡ pinPlace number (take mostPins (s .pins))) where
-      found : place ≡ pinPlace number (s .pins)
-      found = e ∙ ap (pinPlace number) (take-all mostPins (s .pins) (omega arith))
-
       pub unpin-none : place ≡ mostPins → outcomeBy (refuses NoSuchPin) s r ≡ outcome (unpin number) r s
-      unpin-none z =
-          let w = found in
-          let h : hasPin number (s .pins) ≡ false = any-none (λ p. eqb (p .number) number) (s .pins) (omega arith) in
-          no-pin (ap (both (ltb 0 number)) h ∙ both-false (ltb 0 number))
+      unpin-none z = no-pin (ap (both (ltb 0 number)) (place-none (s .pins) number place l e z) ∙ both-no (ltb 0 number))
 
-      module _ (z : place ≡ mostPins → ⊥) where
-        pub unpin-below : place < mostPins
-        unpin-below =
-            let w = found in
-            let h = place-le (λ p. eqb (p .number) number) (s .pins) in
-            omega (arith, z)
-
-        pub unpin-done : (number ≡ 0 → ⊥) → (t : State) (r′ : List ℕ)
-            → t ≡ withHeld (withPins s (set (s .pins) place noPin)) (staying (set (s .pins) place noPin) (take count held))
-            → r′ ≡ headMoved r (slotAfter g (slotsLeft (set (s .pins) place noPin) (take count held)))
-            → outcomeBy (says []) t r′ ≡ outcome (unpin number) r s
-        unpin-done n t r′ et er =
-            let w = found in
-            let h = unpin-below in
-            let f : hasPin number (s .pins) ≡ true = any-found (λ p. eqb (p .number) number) (s .pins) (omega arith) in
-            let o : both (ltb 0 number) (hasPin number (s .pins)) ≡ true = ap (both (ltb 0 number)) f ∙ ap (λ b. both b true) (lt-ltb 0 number (omega (arith, n))) ∙ both-true true in
-            sym (judge-passes (unpin number) (judges-unpin number) r s g count held k ∙ rw (own-unpin r g s number, o, et, er, ← w))
+      pub unpin-done : (place ≡ mostPins → ⊥) → (number ≡ 0 → ⊥) → (t : State) (r′ : List ℕ)
+          → t ≡ withHeld (withPins s (set (s .pins) place noPin)) (staying (set (s .pins) place noPin) (take count held))
+          → r′ ≡ headMoved r (slotAfter g (slotsLeft (set (s .pins) place noPin) (take count held)))
+          → outcomeBy (says []) t r′ ≡ outcome (unpin number) r s
+      unpin-done z n t r′ et er =
+          let o : both (ltb 0 number) (hasPin number (s .pins)) ≡ true = both-intro _ _ (lt-ltb 0 number (omega (arith, n))) (place-some (s .pins) number place l e z) in
+          sym (judge-passes (unpin number) (judges-unpin number) r s g count held k ∙ rw (own-unpin r g s number, o, et, er, ← place-is (s .pins) number place l e))
 
   -- ---- report
 
@@ -108,10 +78,10 @@ module _ (r : List ℕ) (s : State) (g : Ring) (count : ℕ) (held : List Held) 
     not-flush e = sym (judge-passes (report number went) (judges-report number went) r s g count held k ∙ rw (own-report r g s number went, e))
 
     pub report-none : s .flush ≡ 0 → outcomeBy (refuses NotTheFlush) s r ≡ outcome (report number went) r s
-    report-none z = not-flush (ap (λ b. both b (eqb number (s .flush))) (le-ltb 0 (s .flush) (omega arith)) ∙ both-none (eqb number (s .flush)))
+    report-none z = not-flush (ap (λ b. both b (eqb number (s .flush))) (le-ltb 0 (s .flush) (omega arith)) ∙ no-both (eqb number (s .flush)))
 
     pub report-other : (number ≡ s .flush → ⊥) → outcomeBy (refuses NotTheFlush) s r ≡ outcome (report number went) r s
-    report-other z = not-flush (ap (both (ltb 0 (s .flush))) (ne-eqb number (s .flush) z) ∙ both-false (ltb 0 (s .flush)))
+    report-other z = not-flush (ap (both (ltb 0 (s .flush))) (ne-eqb number (s .flush) z) ∙ both-no (ltb 0 (s .flush)))
 
     is-flush : (s .flush ≡ 0 → ⊥) → number ≡ s .flush → both (ltb 0 (s .flush)) (eqb number (s .flush)) ≡ true
     is-flush z e = both-intro _ _ (lt-ltb 0 (s .flush) (omega (arith, z))) (eq-eqb number (s .flush) e)

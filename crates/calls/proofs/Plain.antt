@@ -1,23 +1,19 @@
 -- What each return of the plain calls comes to, by the table's order and the outcome.
-use Prim.Native.Nat.{ℕ, _+_, _<_}
-use mathlib.Core.Path.{_≡_, refl, sym, _∙_, ap}
-use mathlib.Core.Bool.{Bool, true, false}
+use Prim.Native.Nat.{ℕ, _+_}
+use mathlib.Core.Path.{_≡_, refl, sym, _∙_}
+use mathlib.Core.Bool.{Bool}
 use mathlib.Core.List.{List, [], _∷_}
-use native.Mathlib.Omega.{arith}
 use borrow.Author.Tests.{eq-eqb, ne-eqb}
 use lib.ListN.{length, take, set}
-use lib.Seq.{take-all}
-use lib.Dec.{eqb}
 use Rattle.reason.specs.declared.Reason.the-variants.{NodeZero, NoNumber, TooManyPins}
 use Rattle.layout.specs.Sizes.{numberLimit}
 use Rattle.layout.specs.declared.Ring.{Ring}
 use Rattle.state.specs.declared.State.{State}
 use Rattle.state.specs.declared.Held.{Held}
 use Rattle.state.specs.Lists.{mostPins, withNext, withPins}
-use Rattle.state.specs.Pins.{markOf, pinPlace, hasPin}
+use Rattle.state.specs.Pins.{markOf, pinPlace}
 use Rattle.state.specs.Asks.{cachedEnd, turnOf, ticketDone}
-use Rattle.state.proofs.Loops.{any-found, any-none}
-use Rattle.state.proofs.Finding.{place-le}
+use Rattle.state.proofs.PinTable.{place-is, place-none, place-some}
 use Rattle.rules.specs.Call.{pin, askEnd, takeTicket, askTicket, askTurn}
 use Rattle.rules.specs.Outcome.{outcomeBy, says, refuses, bit, outcome}
 use Rattle.rules.specs.Known.{Known}
@@ -70,32 +66,17 @@ module _ (r : List ℕ) (s : State) (g : Ring) (count : ℕ) (held : List Held) 
   -- ---- pin
 
   module _ (node place : ℕ) (l : length (s .pins) ≡ mostPins) (e : place ≡ pinPlace 0 (take mostPins (s .pins))) where
-    free : place ≡ pinPlace 0 (s .pins)
-    free = e ∙ ap (pinPlace 0) (take-all mostPins (s .pins) (omega arith))
-
     pub pin-full : place ≡ mostPins → outcomeBy (refuses TooManyPins) s r ≡ outcome (pin node) r s
-    pin-full z =
-        let w = free in
-        let h : hasPin 0 (s .pins) ≡ false = any-none (λ p. eqb (p .number) 0) (s .pins) (omega arith) in
-        sym (judge-passes (pin node) (judges-pin node) r s g count held k ∙ rw (own-pin r g s node, h))
+    pin-full z = sym (judge-passes (pin node) (judges-pin node) r s g count held k ∙ rw (own-pin r g s node, place-none (s .pins) 0 place l e z))
 
     module _ (z : place ≡ mostPins → ⊥) where
-      pub pin-below : place < mostPins
-      pin-below =
-          let w = free in
-          let h = place-le (λ p. eqb (p .number) 0) (s .pins) in
-          omega (arith, z)
-
-      some-free : hasPin 0 (s .pins) ≡ true
-      some-free =
-          let w = free in
-          let h = pin-below in
-          any-found (λ p. eqb (p .number) 0) (s .pins) (omega arith)
-
       pub pin-number : s .next ≡ numberLimit → outcomeBy (refuses NoNumber) s r ≡ outcome (pin node) r s
-      pin-number n = sym (judge-passes (pin node) (judges-pin node) r s g count held k ∙ rw (own-pin r g s node, some-free, eq-eqb (s .next) numberLimit n))
+      pin-number n =
+          sym (judge-passes (pin node) (judges-pin node) r s g count held k ∙ rw (own-pin r g s node, place-some (s .pins) 0 place l e z, eq-eqb (s .next) numberLimit n))
 
       pub pin-done : (s .next ≡ numberLimit → ⊥) → (mark : ℕ) → mark ≡ markOf node (s .next) (take count held)
           → outcomeBy (says (s .next ∷ [])) (withNext (withPins s (set (s .pins) place (record { number = s .next; mark = mark; node = node }))) (s .next + 1)) r
           ≡ outcome (pin node) r s
-      pin-done n mark m = sym (judge-passes (pin node) (judges-pin node) r s g count held k ∙ rw (own-pin r g s node, some-free, ne-eqb (s .next) numberLimit n, ← m, ← free))
+      pin-done n mark m =
+          sym (judge-passes (pin node) (judges-pin node) r s g count held k
+          ∙ rw (own-pin r g s node, place-some (s .pins) 0 place l e z, ne-eqb (s .next) numberLimit n, ← m, ← place-is (s .pins) 0 place l e))

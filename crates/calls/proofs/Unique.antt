@@ -3,7 +3,7 @@
 use Prim.Native.Nat.{ℕ, _<_}
 use mathlib.Core.Path.{_≡_, refl, sym, _∙_, ap}
 use mathlib.Core.List.{List, [], _∷_}
-use mathlib.Core.Option.{Option, some}
+use mathlib.Core.Option.{some}
 use native.Mathlib.Omega.{arith}
 use lib.Dec.{eqb}
 use Rattle.reason.specs.declared.Reason.{Reason}
@@ -12,6 +12,7 @@ use Rattle.reason.specs.Reason.{numberOf}
 use Rattle.state.specs.declared.State.{State}
 use Rattle.rules.specs.Call.{Call}
 use Rattle.rules.specs.Refusals.{order, first}
+use Rattle.rules.proofs.Order.{same-some}
 use Rattle.rules.specs.Outcome.{says, refuses, outcomeBy, outcome}
 use Rattle.calls.specs.declared.Numbered.{Numbered}
 use Rattle.calls.specs.declared.Numbered.the-variants as numbered
@@ -40,9 +41,6 @@ numbered-back NoSuchPin = refl
 numbered-back TooManyPins = refl
 numbered-back BadBuffer = refl
 numbered-back StateUnfit = refl
-
-same-some : (a b : Reason) → _≡_ {A = Option Reason} (some a) (some b) → a ≡ b
-same-some a b e = cc
 
 refuses-one : (a b : Reason) → refuses a ≡ refuses b → a ≡ b
 refuses-one a b e = same-some a b (sym (numbered-back a) ∙ ap (λ x. first (λ v. eqb (numberOf v) (x .refusal)) order) e ∙ numbered-back b)

@@ -24,7 +24,8 @@ use Rattle.state.specs.Lists.{pick, all, pairs, placeOf, unflushed, inFlight, f
 use Rattle.state.specs.Pins.{isDue, pinPlace}
 use Rattle.state.proofs.Finding.{none-place}
 use Rattle.state.proofs.Loops.{fill-more}
-use Rattle.state.proofs.Pairs.{both-intro, all-always, all-snoc, all-right, all-at, pairs-snoc, pairs-before, none-all, some-place}
+use Rattle.state.proofs.Bools.{both-intro}
+use Rattle.state.proofs.Pairs.{all-always, all-snoc, all-right, all-at, pairs-snoc, pairs-before, none-all, some-place}
 use Rattle.judge.specs.Fits.{listedFits, listFits, pinsDiffer, pinFits, pinsFit, phasesFit, nodesFit, pairFits, isInFlight, flightFits, headStays, padded}
 
 pub record Matching (next : ℕ) (es : List Entry) (ws : List Listed) (n i : ℕ) : Type 0 where

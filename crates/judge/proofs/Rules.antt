@@ -21,7 +21,7 @@ use Rattle.walk.proofs.Readings.{answer-readable, reading-sound, entries-few, e
 use Rattle.state.specs.declared.State.{State}
 use Rattle.state.specs.declared.Held.{Held}
 use Rattle.state.specs.Lists.{all, holding, listed, phaseFits, RisingTo}
-use Rattle.state.proofs.Pairs.{both-intro}
+use Rattle.state.proofs.Bools.{both-intro}
 use Rattle.judge.specs.declared.Verdict.the-variants.{Fits}
 use Rattle.judge.specs.Fits.{listFits, nextFits, pinsFit, heldFits, fits, padded, judgedNo, judgedOf}
 use Rattle.judge.proofs.Fitting.{list-length, holding-length, holding-rising, holding-phases}

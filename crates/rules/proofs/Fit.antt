@@ -20,7 +20,8 @@ use Rattle.state.specs.declared.Held.{Held}
 use Rattle.state.specs.Lists.{pick, any, all, pairs, unflushed, inFlight, flushed, gone, noPin, listed, holding, entryOf, listedOf, phaseFits, withHeld}
 use Rattle.state.specs.Moves.{moveOf, bad, reported}
 use Rattle.state.specs.Pins.{isFlushed, keeps, isDue, leaving, staying}
-use Rattle.state.proofs.Pairs.{both-intro, all-append, all-always, all-left, all-right, all-snoc, pairs-snoc, pairs-right}
+use Rattle.state.proofs.Bools.{both-intro}
+use Rattle.state.proofs.Pairs.{all-append, all-always, all-left, all-right, all-snoc, pairs-snoc, pairs-right}
 use Rattle.state.proofs.Reports.{Event, isGood, isBad, report-entry, report-fits}
 use Rattle.state.proofs.LettingGo.{leave-split}
 use Rattle.judge.specs.Fits.{listedFits, listFits, nextFits, pinsDiffer, pinsFit, phasesFit, nodesFit, pairFits, isInFlight, flightFits, headStays, heldFits}

@@ -24,7 +24,7 @@ pub record First (p : Reason → Bool) (whys : List Reason) (why : Reason) : Typ
   pub applies : p why ≡ true
   pub none-before : any p earlier ≡ false
 
-same-some : (a b : Reason) → _≡_ {A = Option Reason} (some a) (some b) → a ≡ b
+pub same-some : (a b : Reason) → _≡_ {A = Option Reason} (some a) (some b) → a ≡ b
 same-some a b e = cc
 
 module _ (p : Reason → Bool) where

@@ -26,7 +26,7 @@ use Rattle.state.specs.declared.Held.{Held}
 use Rattle.state.specs.Lists.{unflushed, noPin, listed, holding, entryOf, withNext, withFlush, withPins, withHeld}
 use Rattle.state.specs.Moves.{good, bad, reported}
 use Rattle.state.specs.Pins.{leaving, staying, slotsLeft}
-use Rattle.state.proofs.Pairs.{both-intro}
+use Rattle.state.proofs.Bools.{both-intro}
 use Rattle.state.proofs.LettingGo.{leave-split}
 use Rattle.state.proofs.Reports.{isGood, isBad, report-entries}
 use Rattle.judge.specs.Fits.{listedFits, listFits, pinsFit, headStays}

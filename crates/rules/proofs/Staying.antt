@@ -25,7 +25,7 @@ use Rattle.state.specs.declared.State.{State}
 use Rattle.state.specs.declared.Pin.{Pin}
 use Rattle.state.specs.Lists.{any, all, pairs, placeOf, noPin, mostPins, listed, holding, entryOf, comesBack, phaseFits, reopened}
 use Rattle.state.specs.Pins.{isDue, pinPlace}
-use Rattle.state.proofs.Pairs.{both-intro}
+use Rattle.state.proofs.Bools.{both-intro, both-no, both-fails, not-fails}
 use Rattle.judge.specs.Fits.{fits, nextFits, pinsDiffer, pinsFit, pairFits, isInFlight, flightFits, headStays}
 use Rattle.judge.proofs.Fitting.{follows}
 use Rattle.judge.proofs.Rules.{IsFit, fits-true}
@@ -48,16 +48,6 @@ module _ (p : Reason → Bool) where
   first-none d (x ∷ xs) zero o h = none-by x xs (p x) refl o .0
   first-none d (x ∷ xs) (suc i) o h = first-none d xs i (none-by x xs (p x) refl o .1) (omega arith)
 
--- a test of a row that doesn't apply, of a call of the row's kind
-row-no : (a b : Bool) → both a b ≡ false → a ≡ true → b ≡ false
-unfolding both
-row-no true b e k = e
-row-no false b e k = never (cc)
-
-not-no : (b : Bool) → not b ≡ false → b ≡ true
-not-no true e = refl
-not-no false e = never (cc)
-
 -- ---- the place of a record that is there
 
 module _ {A : Type 0} (p : A → Bool) (d : A) where
@@ -74,11 +64,6 @@ module _ {A : Type 0} (p : A → Bool) (d : A) where
   place-there [] o = never (cc)
   place-there (x ∷ xs) o = place-by x xs (p x) refl o (place-there xs)
 
-both-false : (b : Bool) → both b false ≡ false
-unfolding both
-both-false true = refl
-both-false false = refl
-
 -- ---- every call
 
 module _ (c : Call) (r : List ℕ) (s : State) (k : Stands r s) where
@@ -89,22 +74,22 @@ module _ (c : Call) (r : List ℕ) (s : State) (k : Stands r s) where
 
     numbered : isOne c (writes ∷ pins ∷ takesTicket ∷ []) ≡ true → s .next + 1 ≤ numberLimit
     numbered y =
-        let n = eqb-false (s .next) numberLimit (row-no _ _ (free 9 (omega arith)) y) in
+        let n = eqb-false (s .next) numberLimit (both-fails _ _ (free 9 (omega arith)) y) in
         let b = next-facts (s .next) (s .flush) (k .fit .next) .1 in
         omega (arith, n)
 
     may-write : c .kind ≡ writes → Writable (k .ring) s (c .node) (c .offset) (length (c .bytes))
     may-write e =
-        let l = pick-false _ _ (row-no _ _ (free 3 (omega arith)) (rw e)) in
+        let l = pick-false _ _ (both-fails _ _ (free 3 (omega arith)) (rw e)) in
         let n = eqb-false (length (c .bytes)) 0 (l .0) in
         let g : ringOf (readingOf r) ≡ k .ring = ap ringOf (k .reading) in
         record {
-          named = eqb-false (c .node) 0 (row-no _ _ (free 2 (omega arith)) (rw e));
+          named = eqb-false (c .node) 0 (both-fails _ _ (free 2 (omega arith)) (rw e));
           some = omega (arith, n);
           most = ltb-false largest (length (c .bytes)) (l .1);
-          end = ltb-false fileEnd (c .offset + length (c .bytes)) (row-no _ _ (free 4 (omega arith)) (rw e));
-          next = eqb-false (s .next) numberLimit (row-no _ _ (free 9 (omega arith)) (rw e));
-          room = rw g at (ltb-false (ringOf (readingOf r) .n - 1 - ringOf (readingOf r) .used) (slotsOf (length (c .bytes))) (row-no _ _ (free 10 (omega arith)) (rw e)));
+          end = ltb-false fileEnd (c .offset + length (c .bytes)) (both-fails _ _ (free 4 (omega arith)) (rw e));
+          next = eqb-false (s .next) numberLimit (both-fails _ _ (free 9 (omega arith)) (rw e));
+          room = rw g at (ltb-false (ringOf (readingOf r) .n - 1 - ringOf (readingOf r) .used) (slotsOf (length (c .bytes))) (both-fails _ _ (free 10 (omega arith)) (rw e)));
         }
 
     done-stands : (kind : Kind) → c .kind ≡ kind → Judges c → Real c
@@ -113,11 +98,11 @@ module _ (c : Call) (r : List ℕ) (s : State) (k : Stands r s) where
     done-stands reopens e j v = never (let w : true ≡ false = (rw e at (j .fits)) in cc)
     done-stands writes e j v = stands-write r s k c (may-write e) v
     done-stands pins e j v =
-        let f = not-no _ (row-no _ _ (free 8 (omega arith)) (rw e)) in
+        let f = not-fails _ (both-fails _ _ (free 8 (omega arith)) (rw e)) in
         let p = place-there (λ p. eqb (p .number) 0) noPin (s .pins) f in
         stands-pin r s k (numbered (rw e)) (pinPlace 0 (s .pins)) (p .0) (eqb-true _ _ (p .1)) _ refl
     done-stands unpins e j v =
-        let f = both-right (ltb 0 (c .number)) _ (not-no _ (row-no _ _ (free 7 (omega arith)) (rw e))) in
+        let f = both-right (ltb 0 (c .number)) _ (not-fails _ (both-fails _ _ (free 7 (omega arith)) (rw e))) in
         stands-unpin r s k (pinPlace (c .number) (s .pins)) (place-there (λ p. eqb (p .number) (c .number)) noPin (s .pins) f .0)
     done-stands asksEnd e j v = k
     done-stands reports e j v = went (c .good)
@@ -143,10 +128,10 @@ module _ (c : Call) (r : List ℕ) (s : State) (k : Stands r s) where
   not-applied why e o = true-not-false _ (refused-when c r s why o .applies) e
 
   pub never-unreadable : refusalOf c r s ≡ some Unreadable → ⊥
-  never-unreadable = not-applied Unreadable (rw (k .reading) (both-false (not (isOne c (makes ∷ [])))))
+  never-unreadable = not-applied Unreadable (rw (k .reading) (both-no (not (isOne c (makes ∷ [])))))
 
   pub never-unfit : refusalOf c r s ≡ some StateUnfit → ⊥
-  never-unfit = not-applied StateUnfit (rw (k .reading, fits-true (k .entries) s (k .fit)) (both-false (not (isOne c (makes ∷ reopens ∷ [])))))
+  never-unfit = not-applied StateUnfit (rw (k .reading, fits-true (k .entries) s (k .fit)) (both-no (not (isOne c (makes ∷ reopens ∷ [])))))
 
 -- ---- a ring that is made or reopened
 

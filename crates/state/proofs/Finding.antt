@@ -13,7 +13,8 @@ use lib.Seq.{length-take-le, getD-take}
 use lib.Dec.{eqb, ltb, leb}
 use Rattle.layout.specs.Sizes.{numberLimit}
 use Rattle.layout.specs.Bytes.{both}
-use Rattle.layout.proofs.Tests.{never, both-left, both-right, lt-or-le}
+use Rattle.layout.proofs.Tests.{both-left, both-right, lt-or-le}
+use Rattle.state.proofs.Bools.{both-known, both-swap}
 use Rattle.state.specs.declared.Held.{Held}
 use Rattle.state.specs.declared.Query.{Query}
 use Rattle.state.specs.Lists.{any, all, placeOf, unflushed, inFlight, gone, noHeld, phaseFits, RisingTo}
@@ -121,17 +122,6 @@ exactly k p = at (lt-or-le p k)
     at (inl l) = rw (lt-leb k p l, ne-eqb p k (λ e. let w : ⊥ = omega arith in w))
     at (inr l) = upper l (lt-or-le k p)
 
-both-swap : (a b c : Bool) → both a (both b c) ≡ both b (both a c)
-unfolding both
-both-swap true b c = refl
-both-swap false true c = refl
-both-swap false false c = refl
-
-both-true : (a b : Bool) → a ≡ true → both a b ≡ b
-unfolding both
-both-true true b e = refl
-both-true false b e = never (cc)
-
 abbrev Below : ℕ → Held → Type 0
 Below own h = h .entry .number < own
 
@@ -154,12 +144,12 @@ pub seek-waiting : (node own : ℕ) (hs : List Held) → Each (λ h. h .entry .n
     → placeOf (seeks (query node own unflushed inFlight)) hs ≡ placeOf (waitsIn node) hs
 seek-waiting node own hs n f =
     seek-ticket own node hs f
-    ∙ place-each _ _ hs (each-by (Below own) (λ h. waitsFor own node h ≡ waitsIn node h) hs (λ h o. both-true _ _ (lt-ltb _ _ o)) n)
+    ∙ place-each _ _ hs (each-by (Below own) (λ h. waitsFor own node h ≡ waitsIn node h) hs (λ h o. both-known _ _ (lt-ltb _ _ o)) n)
 
 -- in one state, of any node
 sought-phase : (phase : ℕ) (h : Held) → Below numberLimit h → seeks (query 0 numberLimit phase phase) h ≡ eqb (h .phase) phase
 unfolding seeks
-sought-phase phase h o = both-true _ _ refl ∙ both-true _ _ (lt-ltb _ _ o) ∙ exactly phase (h .phase)
+sought-phase phase h o = both-known _ _ refl ∙ both-known _ _ (lt-ltb _ _ o) ∙ exactly phase (h .phase)
 
 pub seek-phase : (phase : ℕ) (hs : List Held) → Each (λ h. h .entry .number < numberLimit) hs
     → placeOf (seeks (query 0 numberLimit phase phase)) hs ≡ placeOf (λ h. eqb (h .phase) phase) hs

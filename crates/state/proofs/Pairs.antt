@@ -11,39 +11,10 @@ use lib.Seq.{slice, take-suc, take-take}
 use lib.Dec.{ltb}
 use Rattle.layout.specs.Bytes.{both}
 use Rattle.layout.proofs.Tests.{both-left, both-right, lt-or-le}
+use Rattle.state.proofs.Bools.{both-intro, yes-both, no-both, both-yes, both-assoc, both-cross}
 use Rattle.state.specs.Lists.{any, all, pairs, placeOf}
 use Rattle.state.proofs.Loops.{any-found, any-none}
 use Rattle.state.proofs.Finding.{each-at, each-true}
-
-both-assoc : (a b c : Bool) → both a (both b c) ≡ both (both a b) c
-unfolding both
-both-assoc true b c = refl
-both-assoc false b c = refl
-
--- a fourth test crosses to the first
-both-cross : (a b c d : Bool) → both (both a b) (both c d) ≡ both (both a c) (both b d)
-unfolding both
-both-cross true true c d = refl
-both-cross true false true d = refl
-both-cross true false false d = refl
-both-cross false b c d = refl
-
-both-true : (b : Bool) → both b true ≡ b
-unfolding both
-both-true true = refl
-both-true false = refl
-
-both-false : (b : Bool) → both false b ≡ false
-unfolding both
-both-false b = refl
-
-both-yes : (b : Bool) → both true b ≡ b
-unfolding both
-both-yes b = refl
-
-pub both-intro : (a b : Bool) → a ≡ true → b ≡ true → both a b ≡ true
-unfolding both
-both-intro a b p q = rw (p, q)
 
 module _ {A : Type 0} (p : A → Bool) where
   pub all-append : (xs ys : List A) → all p (xs ++ ys) ≡ both (all p xs) (all p ys)
@@ -79,8 +50,8 @@ module _ {A : Type 0} (p : A → Bool) where
   none-all (x ∷ xs) = at (p x) refl (none-all xs)
     where
       at : (b : Bool) → p x ≡ b → not (any p xs) ≡ all (λ x. not (p x)) xs → not (any p (x ∷ xs)) ≡ all (λ x. not (p x)) (x ∷ xs)
-      at true e k = rw e (sym (both-false (all (λ x. not (p x)) xs)))
-      at false e k = rw e (k ∙ sym (both-yes (all (λ x. not (p x)) xs)))
+      at true e k = rw e (sym (no-both (all (λ x. not (p x)) xs)))
+      at false e k = rw e (k ∙ sym (yes-both (all (λ x. not (p x)) xs)))
 
   pub some-place : (xs : List A) → ltb (placeOf p xs) (length xs) ≡ any p xs
   some-place xs = at (lt-or-le (placeOf p xs) (length xs))
@@ -97,7 +68,7 @@ module _ {A : Type 0} (p : A → A → Bool) where
       ap (λ b. both b (pairs p (xs ++ y ∷ []))) (all-append (p x) xs (y ∷ []))
       ∙ ap (both (both (all (p x) xs) (both (p x y) true))) (pairs-snoc xs y)
       ∙ both-cross (all (p x) xs) (both (p x y) true) (pairs p xs) (all (λ x. p x y) xs)
-      ∙ ap (λ b. both (both (all (p x) xs) (pairs p xs)) (both b (all (λ x. p x y) xs))) (both-true (p x y))
+      ∙ ap (λ b. both (both (all (p x) xs) (pairs p xs)) (both b (all (λ x. p x y) xs))) (both-yes (p x y))
 
   pub pairs-left : (xs ys : List A) → pairs p (xs ++ ys) ≡ true → pairs p xs ≡ true
   pairs-left [] ys e = refl

@@ -9,7 +9,7 @@ use Rattle.layout.proofs.Tests.{both-left, both-right}
 use Rattle.state.specs.declared.Held.{Held}
 use Rattle.state.specs.Lists.{all, inFlight, entryOf, phaseFits}
 use Rattle.state.specs.Moves.{moveOf, good, bad, reported}
-use Rattle.state.proofs.Pairs.{both-intro}
+use Rattle.state.proofs.Bools.{both-intro}
 use borrow.Author.Tests.{eqb-true}
 
 pub data Event : ℕ → Type 0 where

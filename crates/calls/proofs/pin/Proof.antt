@@ -3,10 +3,11 @@ use native.Mathlib.Omega.{arith}
 use borrow.Author.Needs.{needs}
 use denote.Ref.{now}
 use Rattle.state.proofs.Lengths.{pins-long}
+use Rattle.state.proofs.PinTable.{place-below}
 use Rattle.rules.specs.Call.{pin}
 use Rattle.rules.proofs.Judging.{known, judge-refuses}
 use Rattle.rules.proofs.Owning.{sure}
-use Rattle.calls.proofs.Plain.{judges-pin, pin-full, pin-below, pin-number, pin-done}
+use Rattle.calls.proofs.Plain.{judges-pin, pin-full, pin-number, pin-done}
 use Rattle.calls.proofs.pin.Statement.{statement}
 use Rattle.calls.proofs.pin.Tie as tie
 
@@ -58,14 +59,14 @@ mul-t17 : tie.Need-mul-t17
 mul-t17 c =
     let a = c .before .before .before .before .before .before .before .before .before .before .args in
     let l = pins-long (a .s) (c .before .before .before .before .before .before .before .before .before .before .good .1 .0) in
-    let p = pin-below (now (a .bytes)) (a .s) _ _ _ (known (now (a .bytes)) (a .s) _ _ (c .before .before .before .before .before .before .before .before .judge .ensures) (c .before .before .before .before .before .enum-told .given .1)) (a .node) _ l (c .before .before .before .find-pin .ensures) (c .before .before .if1 .left) in
+    let p = place-below (a .s .pins) 0 _ l (c .before .before .before .find-pin .ensures) (c .before .before .if1 .left) in
     omega arith
 
 element-set-from-t : tie.Need-element-set-from-t
 element-set-from-t c =
     let a = c .before .before .before .before .before .before .before .before .before .before .args in
     let l = pins-long (a .s) (c .before .before .before .before .before .before .before .before .before .before .good .1 .0) in
-    pin-below (now (a .bytes)) (a .s) _ _ _ (known (now (a .bytes)) (a .s) _ _ (c .before .before .before .before .before .before .before .before .judge .ensures) (c .before .before .before .before .before .enum-told .given .1)) (a .node) _ l (c .before .before .before .find-pin .ensures) (c .before .before .if1 .left)
+    place-below (a .s .pins) 0 _ l (c .before .before .before .find-pin .ensures) (c .before .before .if1 .left)
 
 add-t : tie.Need-add-t
 add-t c =

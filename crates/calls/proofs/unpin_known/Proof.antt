@@ -3,8 +3,9 @@ use native.Mathlib.Omega.{arith}
 use borrow.Author.Needs.{needs}
 use denote.Ref.{now}
 use Rattle.state.proofs.Lengths.{pins-long}
+use Rattle.state.proofs.PinTable.{place-below}
 use Rattle.rules.proofs.Owning.{sure}
-use Rattle.calls.proofs.Changing.{unpin-zero, unpin-none, unpin-below, unpin-done}
+use Rattle.calls.proofs.Changing.{unpin-zero, unpin-none, unpin-done}
 use Rattle.calls.proofs.unpin_known.Statement.{statement}
 use Rattle.calls.proofs.unpin_known.Tie as tie
 
@@ -32,14 +33,14 @@ mul-t15 : tie.Need-mul-t15
 mul-t15 c =
     let a = c .before .before .before .before .before .args in
     let l = pins-long (a .s) (c .before .before .before .before .before .good .1 .0) in
-    let p = unpin-below (now (a .bytes)) (a .s) _ _ _ (c .before .before .before .before .before .pre) (a .number) _ l (c .before .find-pin .ensures) (c .if2 .left) in
+    let p = place-below (a .s .pins) (a .number) _ l (c .before .find-pin .ensures) (c .if2 .left) in
     omega arith
 
 element-set-from-t : tie.Need-element-set-from-t
 element-set-from-t c =
     let a = c .before .before .before .before .before .args in
     let l = pins-long (a .s) (c .before .before .before .before .before .good .1 .0) in
-    unpin-below (now (a .bytes)) (a .s) _ _ _ (c .before .before .before .before .before .pre) (a .number) _ l (c .before .find-pin .ensures) (c .if2 .left)
+    place-below (a .s .pins) (a .number) _ l (c .before .find-pin .ensures) (c .if2 .left)
 
 let-go-requires : tie.Need-let-go-requires
 let-go-requires c κs =
