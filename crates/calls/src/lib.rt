@@ -95,15 +95,15 @@ pub fn take_ticket(bytes: &[u8], s: State) -> NumberedOut
     if let Verdict::Refused(why) = verdict {
         return no_number(s, why);
     }
-    let number = s.next;
-    if number == Ring::NUMBERS {
+    let ticket = s.next;
+    if ticket == Ring::NUMBERS {
         return no_number(s, Reason::NoNumber);
     }
     let mut t = s;
-    t.next = number + 1;
+    t.next = ticket + 1;
     NumberedOut {
         state: t,
-        answer: Numbered::Number(number),
+        answer: Numbered::Number(ticket),
     }
 }
 
