@@ -1,5 +1,4 @@
 -- What each return of make and reopen comes to: a ring that is made reopens as empty.
--- ---- reopen
 use Prim.Native.Nat.{ℕ}
 use mathlib.Core.Path.{_≡_, refl, sym, _∙_, ap}
 use mathlib.Core.Bool.{Bool, true, false}
@@ -26,6 +25,8 @@ use Rattle.judge.proofs.Rules.{read-entries}
 use Rattle.rules.specs.Call.{makeRing, reopenRing}
 use Rattle.rules.specs.Refusals.{refusalOf}
 use Rattle.rules.specs.Outcome.{outcomeBy, says, refuses, outcome}
+
+-- ---- reopen
 
 same-opened : (a b : Reason) → _≡_ {A = Opened} (opened.Refused a) (opened.Refused b) → a ≡ b
 same-opened a b e = cc

@@ -1,5 +1,4 @@
 -- No two different outcomes meet a call's promise. Document 01, "How firmly each answer is tied down".
--- ---- a refusal's number tells its reason, and is never 0
 use Prim.Native.Nat.{ℕ, _<_}
 use mathlib.Core.Path.{_≡_, refl, sym, _∙_, ap}
 use mathlib.Core.List.{List, [], _∷_}
@@ -27,6 +26,8 @@ use Rattle.calls.specs.declared.Asked.the-variants as asked
 use Rattle.calls.specs.declared.Turn.{Turn}
 use Rattle.calls.specs.declared.Turn.the-variants as turn
 use Rattle.calls.specs.Answers.{saidNumber, saidDone, saidEnd, saidTicket, saidTurn}
+
+-- ---- a refusal's number tells its reason, and is never 0
 
 numbered-back : (w : Reason) → first (λ v. eqb (numberOf v) (numberOf w)) order ≡ some w
 numbered-back NodeZero = refl

@@ -1,5 +1,4 @@
 -- What each answer says on paper: the refusal's number, or the values. Document 01, "When the box says no".
--- write, pin, take a ticket, reopen: a number
 use mathlib.Core.List.{[], _∷_}
 use mathlib.Core.Option.{Option, none, some}
 use Rattle.reason.specs.declared.Reason.{Reason}
@@ -17,6 +16,7 @@ use Rattle.calls.specs.declared.May.the-variants as may
 use Rattle.calls.specs.declared.Turn.{Turn}
 use Rattle.calls.specs.declared.Turn.the-variants as turn
 
+-- write, pin, take a ticket, reopen: a number
 abbrev pub saidNumber : Numbered → Said
 saidNumber (numbered.Number n) = says (n ∷ [])
 saidNumber (numbered.Refused why) = refuses why

@@ -1,5 +1,4 @@
 -- What the judge's loops keep: entries matched with listed writes, held beside them, pins and pairs of writes judged.
--- ---- entries matched with listed writes
 use Prim.Native.Nat.{ℕ, zero, suc, _+_, _≤_, _<_}
 use mathlib.Core.Path.{_≡_, refl, sym, _∙_, ap}
 use mathlib.Core.Bool.{Bool, true, false, not}
@@ -27,6 +26,8 @@ use Rattle.state.proofs.Loops.{fill-more}
 use Rattle.state.proofs.Bools.{both-intro}
 use Rattle.state.proofs.Pairs.{all-always, all-snoc, all-right, all-at, pairs-snoc, pairs-before, none-all, some-place}
 use Rattle.judge.specs.Fits.{listedFits, listFits, pinsDiffer, pinFits, pinsFit, phasesFit, nodesFit, pairFits, isInFlight, flightFits, headStays, padded}
+
+-- ---- entries matched with listed writes
 
 pub record Matching (next : ℕ) (es : List Entry) (ws : List Listed) (n i : ℕ) : Type 0 where
   pub upto : i ≤ n

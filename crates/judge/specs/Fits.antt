@@ -1,5 +1,4 @@
 -- "State fits when". Document 01, "When the box says no", last paragraph, clause by clause.
--- the ring's number; next is "above every write" number; and it is Unflushed, In flight or Flushed
 use Prim.Native.Nat.{ℕ}
 use mathlib.Core.Bool.{Bool, true, false, not}
 use mathlib.Core.List.{List, [], _∷_}
@@ -20,6 +19,7 @@ use Rattle.judge.specs.declared.Judged.{Judged}
 use Rattle.state.specs.Lists.{pick, any, all, pairs, filled, unflushed, inFlight, flushed, gone, noHeld, listed, holding}
 use Rattle.state.specs.Pins.{isDue}
 
+-- the ring's number; next is "above every write" number; and it is Unflushed, In flight or Flushed
 unfoldable pub listedFits : ℕ → ℕ → Listed → Bool
 listedFits next number w = both (eqb (w .number) number) (both (ltb (w .number) next) (ltb (w .phase) gone))
 

@@ -1,5 +1,4 @@
 -- A good state stays good, over lists: what each call does to the held writes, the pins and the next number keeps "state fits".
--- the clauses, of a next number, a flush, pins and held writes
 use Prim.Native.Nat.{ℕ, zero, suc, _+_, _≤_, _<_}
 use mathlib.Core.Path.{_≡_, refl, sym, _∙_, ap}
 use mathlib.Core.Bool.{Bool, true, false, not}
@@ -29,6 +28,7 @@ use Rattle.judge.proofs.Fitting.{follows}
 use Rattle.judge.proofs.Rules.{IsFit}
 use Rattle.rules.proofs.Owning.{next-facts}
 
+-- the clauses, of a next number, a flush, pins and held writes
 pub record HeldFit (next flush : ℕ) (ps : List Pin) (hs : List Held) : Type 0 where
   pub numbers : all (λ h. ltb (h .entry .number) next) hs ≡ true
   pub phases : all phaseFits hs ≡ true

@@ -1,5 +1,4 @@
 -- From the judge's word to the outcome: a call that it refuses, and what a call that it lets pass may count on.
--- a call that tests 8 and 12
 use Prim.Native.Nat.{ℕ}
 use mathlib.Core.Path.{_≡_, refl, sym, _∙_, ap}
 use mathlib.Core.Bool.{Bool, true, false}
@@ -28,6 +27,7 @@ use Rattle.rules.specs.Refusals.{order, refusalOf, own}
 use Rattle.rules.specs.Outcome.{outcomeBy, refuses, doneBy, unless, outcome}
 use Rattle.rules.specs.Known.{Known}
 
+-- a call that tests 8 and 12
 pub record Judges (c : Call) : Type 0 where
   pub reads : isOne c (makes ∷ []) ≡ false
   pub fits : isOne c (makes ∷ reopens ∷ []) ≡ false

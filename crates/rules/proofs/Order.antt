@@ -1,5 +1,4 @@
 -- A reason is given exactly when its row applies and no earlier one does. Document 01, "When the box says no".
--- the order, in the paper's numbers
 use Prim.Native.Nat.{ℕ}
 use mathlib.Core.Path.{_≡_, refl, _∙_, ap}
 use mathlib.Core.Bool.{Bool, true, false}
@@ -13,6 +12,7 @@ use Rattle.state.specs.Lists.{any}
 use Rattle.rules.specs.Call.{Call}
 use Rattle.rules.specs.Refusals.{applies, order, first, refusalOf}
 
+-- the order, in the paper's numbers
 pub order-printed : map numberOf order ≡ 8 ∷ 12 ∷ 1 ∷ 2 ∷ 3 ∷ 6 ∷ 7 ∷ 9 ∷ 10 ∷ 5 ∷ 4 ∷ 11 ∷ []
 order-printed = refl
 

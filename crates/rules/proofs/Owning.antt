@@ -1,5 +1,4 @@
 -- Each call's own refusals, as the order leaves them; and what a call that passed the judge may count on.
--- one refusal, and what comes after it
 use Prim.Native.Nat.{ℕ, _+_, _-_, _≤_, _<_}
 use mathlib.Core.Path.{_≡_, refl, sym, _∙_, ap}
 use mathlib.Core.Bool.{Bool, true, false, not}
@@ -29,6 +28,7 @@ use Rattle.rules.specs.Call.{write, pin, unpin, askEnd, report, takeTick
 use Rattle.rules.specs.Known.{Known}
 use Rattle.rules.specs.Refusals.{own}
 
+-- one refusal, and what comes after it
 abbrev pub or : Bool → Reason → Option Reason → Option Reason
 or b why rest = pick b (some why) rest
 

@@ -1,5 +1,4 @@
 -- A good state stays good: a call on a readable ring and a state that fits it leaves such a ring and such a state; so 8 and 12 never come.
--- arguments of a call that are numbers of their types
 use Prim.Native.Nat.{ℕ, zero, _+_, _^_, _≤_, _<_}
 use mathlib.Core.Path.{_≡_, refl, sym, _∙_, ap}
 use mathlib.Core.Bool.{true}
@@ -37,6 +36,7 @@ use Rattle.rules.specs.Outcome.{newEntry}
 use Rattle.rules.proofs.Owning.{next-facts, Writable}
 use Rattle.rules.proofs.Fit.{HeldFit, fit-of, fit-back, list-grows, bounds-grow, pins-grow, fit-write, fit-leave, fit-reported, fit-kept, bad-head, pins-pinned, pins-unpinned, head-pinned}
 
+-- arguments of a call that are numbers of their types
 pub record Real (c : Call) : Type 0 where
   pub node : c .node < 2 ^ 32
   pub handle : c .handle < 2 ^ 32

@@ -1,5 +1,4 @@
 -- From a made or reopened ring, over any calls: the state fits the ring, and 8 and 12 never come.
--- ---- rows of a call that isn't refused
 use Prim.Native.Nat.{ℕ, zero, suc, _+_, _-_, _≤_, _<_}
 use mathlib.Core.Path.{_≡_, refl, ap}
 use mathlib.Core.Bool.{Bool, true, false, not}
@@ -37,6 +36,8 @@ use Rattle.rules.proofs.Order.{refused-when}
 use Rattle.rules.proofs.Owning.{next-facts, Writable, pick-false}
 use Rattle.rules.proofs.Fit.{HeldFit, fit-of}
 use Rattle.rules.proofs.Standing.{Real, Stands, stands-ticket, stands-pin, stands-unpin, stands-good, stands-bad, stands-write}
+
+-- ---- rows of a call that isn't refused
 
 module _ (p : Reason → Bool) where
   none-by : (x : Reason) (xs : List Reason) (b : Bool) → p x ≡ b → first p (x ∷ xs) ≡ none → (p x ≡ false) × (first p xs ≡ none)

@@ -1,5 +1,4 @@
 -- What every call does: what it says, the state and every byte of the ring, for all input. Document 01, "The ring in battery memory" and "Moves".
--- an answer on paper: the refusal's number, 0 for none, and the values
 use Prim.Native.Nat.{ℕ, _+_}
 use mathlib.Core.Bool.{Bool, true, false}
 use mathlib.Core.List.{List, [], _∷_, _++_, map}
@@ -22,6 +21,7 @@ use Rattle.state.specs.Asks.{cachedEnd, turnOf, ticketDone}
 use Rattle.rules.specs.Call.{Call, Kind, makes, reopens, writes, pins, unpins, asksEnd, reports, takesTicket, asksTicket, asksTurn, ringOf, entriesOf, heldOf}
 use Rattle.rules.specs.Refusals.{refusalOf}
 
+-- an answer on paper: the refusal's number, 0 for none, and the values
 pub record Said : Type 0 where
   pub refusal : ℕ
   pub values : List ℕ

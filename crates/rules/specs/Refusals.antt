@@ -1,6 +1,4 @@
 -- When the box says no: each row of the table, and the order. Document 01, "When the box says no".
--- ---- the table: whether a row applies to a call on a ring of those bytes, read as x, with that state
--- 8: "the ring isn't readable"
 use Prim.Native.Nat.{ℕ, _+_, _-_}
 use mathlib.Core.Bool.{Bool, true, false, not}
 use mathlib.Core.List.{List, [], _∷_}
@@ -20,6 +18,9 @@ use Rattle.state.specs.Pins.{hasPin}
 use Rattle.judge.specs.Fits.{fits}
 use Rattle.rules.specs.Call.{Call, makes, reopens, writes, pins, unpins, asksEnd, reports, takesTicket, isOne, ringOf}
 
+-- ---- the table: whether a row applies to a call on a ring of those bytes, read as x, with that state
+
+-- 8: "the ring isn't readable"
 abbrev isUnreadable : Reading → Bool
 isUnreadable unreadable = true
 isUnreadable (readable g es) = false
@@ -40,7 +41,7 @@ row PastFileEnd c r x s = both (isOne c (writes ∷ [])) (ltb fileEnd (c .offset
 row NoRoom c r x s = both (isOne c (writes ∷ [])) (ltb (ringOf x .n - 1 - ringOf x .used) (slotsOf (length (c .bytes))))
 -- 5: a number is needed and the next is 2^62
 row NoNumber c r x s = both (isOne c (writes ∷ pins ∷ takesTicket ∷ [])) (eqb (s .next) numberLimit)
--- 6: flush start while one is under way
+-- 6: flush start while one is under way (the call that starts one is still to come)
 row FlushUnderWay c r x s = both (isOne c []) (ltb 0 (s .flush))
 -- 7: report with a number that isn't the flush under way
 row NotTheFlush c r x s = both (isOne c (reports ∷ [])) (not (both (ltb 0 (s .flush)) (eqb (c .number) (s .flush))))

@@ -1,5 +1,4 @@
 -- A search by place finds what the definitions name by number: the lowest of rising numbers is the first.
--- ---- what holds of each element
 use Prim.Native.Nat.{ℕ, zero, suc, _≤_, _<_}
 use mathlib.Core.Path.{_≡_, refl, sym, _∙_, ap}
 use mathlib.Core.Bool.{Bool, true, false, not}
@@ -21,6 +20,8 @@ use Rattle.state.specs.Lists.{any, all, placeOf, unflushed, inFlight, go
 use Rattle.state.specs.Pins.{reaches, waitsIn, those, lower, lowest, valueOr}
 use Rattle.state.specs.Asks.{waitsFor, seeks}
 use Rattle.state.proofs.Loops.{any-found, any-none}
+
+-- ---- what holds of each element
 
 abbrev pub Each : {A : Type 0} → (A → Type 0) → List A → Type 0
 Each P [] = Unit {0}

@@ -1,5 +1,4 @@
 -- Letting go: the table lets only a Flushed write go, and the loop that counts those that leave from the head.
--- the column "let go" has one move, from Flushed to Gone
 use Prim.Native.Nat.{ℕ, zero, suc, _+_, _≤_, _<_}
 use mathlib.Core.Path.{_≡_, refl, sym, _∙_, ap}
 use mathlib.Core.Bool.{Bool, true, false, not}
@@ -21,6 +20,7 @@ use Rattle.state.specs.Lists.{any, flushed, gone, noHeld, entryOf}
 use Rattle.state.specs.Moves.{moveOf, letGo}
 use Rattle.state.specs.Pins.{keeps, isDue, leaving, staying, slotsLeft}
 
+-- the column "let go" has one move, from Flushed to Gone
 pub let-go-flushed : (p : ℕ) → p < 4 → eqb (moveOf p letGo) gone ≡ eqb p flushed
 unfolding moveOf
 let-go-flushed zero h = refl

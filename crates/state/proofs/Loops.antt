@@ -1,5 +1,4 @@
 -- What the loops over the first n elements of an array keep: a search from the front, a pass that changes each element.
--- ---- a search: nothing before place i passes
 use Prim.Native.Nat.{ℕ, suc, _+_, _-_, _≤_, _<_}
 use mathlib.Core.Path.{_≡_, refl, sym, _∙_}
 use mathlib.Core.Bool.{Bool, true, false}
@@ -9,6 +8,8 @@ use native.Mathlib.Numerals.{add-one}
 use lib.ListN.{length, take, drop, getD, set, replicate, length-map, length-append}
 use lib.Seq.{slice, slice-cons, slice-empty, length-slice, length-take-le, take-all, take-suc, drop-append-le, drop-cons, getD-at, set-at}
 use Rattle.state.specs.Lists.{any, placeOf, carry, filled}
+
+-- ---- a search: nothing before place i passes
 
 pub record Searching {A : Type 0} (p : A → Bool) (l : List A) (n i : ℕ) : Type 0 where
   pub upto : i ≤ n

@@ -1,5 +1,4 @@
 -- What a report leaves of a held write: its entry, and a state that fits.
--- a report is good or bad
 use Prim.Native.Nat.{ℕ}
 use mathlib.Core.Path.{_≡_, refl}
 use mathlib.Core.Bool.{Bool, true, false}
@@ -12,6 +11,7 @@ use Rattle.state.specs.Moves.{moveOf, good, bad, reported}
 use Rattle.state.proofs.Bools.{both-intro}
 use borrow.Author.Tests.{eqb-true}
 
+-- a report is good or bad
 pub data Event : ℕ → Type 0 where
   isGood : Event good
   isBad : Event bad

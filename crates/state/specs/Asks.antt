@@ -1,5 +1,4 @@
 -- What is asked of the held writes. Document 01, "Moves": whose turn ("Flush"), cached end ("Fill"), tickets ("Ticket").
--- "the node of the lowest-numbered Unflushed write, or 0"
 use Prim.Native.Nat.{ℕ, _+_}
 use mathlib.Core.Bool.{Bool, not}
 use mathlib.Core.List.{List}
@@ -10,6 +9,7 @@ use Rattle.state.specs.declared.Query.{Query}
 use Rattle.state.specs.Lists.{pick, any, carry, unflushed}
 use Rattle.state.specs.Pins.{reaches, waitsIn, those, lowest, valueOr}
 
+-- "the node of the lowest-numbered Unflushed write, or 0"
 abbrev pub isUnflushed : Held → Bool
 isUnflushed h = eqb (h .phase) unflushed
 

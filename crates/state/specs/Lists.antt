@@ -1,6 +1,5 @@
 -- The state's lists: the writes that it lists, held beside their entries, and the state with some of its fields anew.
 -- Document 01, "What the box's cache does" ("state in, event in, state and answer out") and "The ring in battery memory", last paragraph.
--- ---- tests over lists
 use Prim.Native.Nat.{ℕ, suc, _+_, _-_, _<_}
 use lib.Dec.{ltb}
 use mathlib.Core.Bool.{Bool, true, false}
@@ -15,6 +14,8 @@ use Rattle.state.specs.declared.Listed.{Listed}
 use Rattle.state.specs.declared.Pin.{Pin}
 use Rattle.state.specs.declared.State.{State}
 use Rattle.state.specs.declared.Held.{Held}
+
+-- ---- tests over lists
 
 abbrev pub pick {ℓ} : {A : Type ℓ} → Bool → A → A → A
 pick true a b = a

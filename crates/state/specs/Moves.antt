@@ -1,5 +1,4 @@
 -- The table of moves, exactly as printed; 9 means the move can't happen. Document 01, "Moves".
--- the table's columns
 use Prim.Native.Nat.{ℕ}
 use mathlib.Core.List.{List, [], _∷_}
 use lib.ListN.{getD}
@@ -7,6 +6,7 @@ use lib.Dec.{eqb}
 use Rattle.state.specs.declared.Held.{Held}
 use Rattle.state.specs.Lists.{pick, inFlight}
 
+-- the table's columns
 abbrev pub taken : ℕ
 taken = 0
 

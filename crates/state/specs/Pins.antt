@@ -1,5 +1,4 @@
 -- Pins, marks and letting go. Document 01, "Moves", paragraphs "Pins" and "Letting go".
--- "for one node, or for all (node 0)"
 use Prim.Native.Nat.{ℕ}
 use mathlib.Core.Bool.{Bool, true, not}
 use mathlib.Core.List.{List, [], _∷_, map}
@@ -11,6 +10,7 @@ use Rattle.state.specs.declared.Pin.{Pin}
 use Rattle.state.specs.declared.Held.{Held}
 use Rattle.state.specs.Lists.{pick, any, placeOf, flushed, entryOf}
 
+-- "for one node, or for all (node 0)"
 abbrev pub reaches : ℕ → Held → Bool
 reaches node h = pick (eqb node 0) true (eqb (h .entry .node) node)
 
