@@ -38,7 +38,7 @@ nextFits next flush = both (ltb flush next) (leb next numberLimit)
 unfoldable pub pinsDiffer : Pin → Pin → Bool
 pinsDiffer p q = pick (eqb (q .number) 0) true (not (eqb (p .number) (q .number)))
 
--- a pin behind those
+-- what that asks of one pin, beside those before it
 unfoldable pub pinFits : ℕ → List Pin → Pin → Bool
 pinFits next ps p = both (ltb (p .number) next) (all (λ q. pinsDiffer q p) ps)
 

@@ -20,7 +20,7 @@ use Rattle.state.specs.Lists.{pick, any, all, pairs, unflushed, inFlight, flush
 use Rattle.state.specs.Moves.{moveOf, bad, reported}
 use Rattle.state.specs.Pins.{isFlushed, keeps, isDue, leaving, staying}
 use Rattle.state.proofs.Bools.{both-intro}
-use Rattle.state.proofs.Pairs.{all-append, all-always, all-left, all-right, all-snoc, pairs-snoc, pairs-right}
+use Rattle.state.proofs.Pairs.{all-always, all-imp, all-left, all-right, all-snoc, all-put, any-append, any-put, pairs-snoc, pairs-right, pairs-put}
 use Rattle.state.proofs.Reports.{Event, isGood, isBad, report-entry, report-fits}
 use Rattle.state.proofs.LettingGo.{leave-split}
 use Rattle.judge.specs.Fits.{listedFits, listFits, nextFits, pinsDiffer, pinsFit, phasesFit, nodesFit, pairFits, isInFlight, flightFits, headStays, heldFits}
@@ -93,10 +93,6 @@ fit-back es s p f =
 
 -- ---- the next number grows
 
-pub all-imp : {A : Type 0} (p q : A → Bool) → ((x : A) → p x ≡ true → q x ≡ true) → (xs : List A) → all p xs ≡ true → all q xs ≡ true
-all-imp p q k [] e = refl
-all-imp p q k (x ∷ xs) e = both-intro _ _ (k x (both-left _ _ e)) (all-imp p q k xs (both-right (p x) _ e))
-
 module _ (next more : ℕ) (l : next ≤ more) where
   below-more : (n : ℕ) → ltb n next ≡ true → ltb n more ≡ true
   below-more n e = let h = ltb-true n next e in lt-ltb n more (omega arith)
@@ -125,14 +121,6 @@ module _ (next more : ℕ) (l : next ≤ more) where
       both-intro _ _ (all-imp (λ p. ltb (p .number) next) (λ p. ltb (p .number) more) (λ p. below-more (p .number)) ps (both-left _ _ e)) (both-right (all (λ p. ltb (p .number) next) ps) _ e)
 
 -- ---- one write more, Unflushed, under the next number
-
-pub any-append : {A : Type 0} (p : A → Bool) (xs ys : List A) → any p (xs ++ ys) ≡ pick (any p xs) true (any p ys)
-any-append p [] ys = refl
-any-append p (x ∷ xs) ys = at (p x) refl (any-append p xs ys)
-  where
-    at : (b : Bool) → p x ≡ b → any p (xs ++ ys) ≡ pick (any p xs) true (any p ys) → any p ((x ∷ xs) ++ ys) ≡ pick (any p (x ∷ xs)) true (any p ys)
-    at true e k = rw e
-    at false e k = rw e k
 
 pick-self : (b : Bool) → pick b true false ≡ b
 pick-self true = refl
@@ -359,30 +347,7 @@ unfolding headStays isDue
 bad-head ps [] e = refl
 bad-head ps (h ∷ hs) e = rw (bad-flushed h, any-keeps h ps) e
 
--- ---- pins: one record put for another
-
-module _ {A : Type 0} (q p : A) (ys : List A) where
-  all-put : (r : A → Bool) (xs : List A) → all r (xs ++ q ∷ ys) ≡ true → r p ≡ true → all r (xs ++ p ∷ ys) ≡ true
-  all-put r xs e k =
-      all-append r xs (p ∷ ys) ∙ both-intro _ _ (all-left r xs (q ∷ ys) e) (both-intro _ _ k (both-right (r q) _ (all-right r xs (q ∷ ys) e)))
-
-  pairs-put : (r : A → A → Bool) (xs : List A) → pairs r (xs ++ q ∷ ys) ≡ true → all (λ x. r x p) xs ≡ true → all (r p) ys ≡ true → pairs r (xs ++ p ∷ ys) ≡ true
-  pairs-put r [] e a b = both-intro _ _ b (both-right (all (r q) ys) _ e)
-  pairs-put r (x ∷ xs) e a b =
-      both-intro _ _ (all-put (r x) xs (both-left _ _ e) (both-left _ _ a))
-      (pairs-put r xs (both-right (all (r x) (xs ++ q ∷ ys)) _ e) (both-right (r x p) _ a) b)
-
-  any-put : (r : A → Bool) (xs : List A) → r q ≡ false → any r (xs ++ q ∷ ys) ≡ true → any r (xs ++ p ∷ ys) ≡ true
-  any-put r [] z e = at (r p)
-    where
-      at : (b : Bool) → pick b true (any r ys) ≡ true
-      at true = refl
-      at false = rw z at e
-  any-put r (x ∷ xs) z e = by (r x) refl (any-put r xs z)
-    where
-      by : (b : Bool) → r x ≡ b → (any r (xs ++ q ∷ ys) ≡ true → any r (xs ++ p ∷ ys) ≡ true) → any r ((x ∷ xs) ++ p ∷ ys) ≡ true
-      by true w k = rw w
-      by false w k = rw w (k (rw w at e))
+-- ---- pins
 
 pick-true : (b : Bool) → pick b true true ≡ true
 pick-true true = refl

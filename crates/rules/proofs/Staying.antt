@@ -22,9 +22,10 @@ use Rattle.ring.specs.Ring.{emptyRing}
 use Rattle.ring.proofs.Laws.{readable-facts, made-reads}
 use Rattle.state.specs.declared.State.{State}
 use Rattle.state.specs.declared.Pin.{Pin}
-use Rattle.state.specs.Lists.{any, all, pairs, placeOf, noPin, mostPins, listed, holding, entryOf, comesBack, phaseFits, reopened}
+use Rattle.state.specs.Lists.{any, all, pairs, noPin, mostPins, listed, holding, entryOf, comesBack, phaseFits, reopened}
 use Rattle.state.specs.Pins.{isDue, pinPlace}
 use Rattle.state.proofs.Bools.{both-intro, both-no, both-fails, not-fails}
+use Rattle.state.proofs.Finding.{place-there}
 use Rattle.judge.specs.Fits.{fits, nextFits, pinsDiffer, pinsFit, pairFits, isInFlight, flightFits, headStays}
 use Rattle.judge.proofs.Fitting.{follows}
 use Rattle.judge.proofs.Rules.{IsFit, fits-true}
@@ -48,22 +49,6 @@ module _ (p : Reason → Bool) where
   first-none d [] i o h = absurd (omega arith)
   first-none d (x ∷ xs) zero o h = none-by x xs (p x) refl o .0
   first-none d (x ∷ xs) (suc i) o h = first-none d xs i (none-by x xs (p x) refl o .1) (omega arith)
-
--- ---- the place of a record that is there
-
-module _ {A : Type 0} (p : A → Bool) (d : A) where
-  place-by : (x : A) (xs : List A) (b : Bool) → p x ≡ b → any p (x ∷ xs) ≡ true
-      → (any p xs ≡ true → (placeOf p xs < length xs) × (p (getD xs (placeOf p xs) d) ≡ true))
-      → (placeOf p (x ∷ xs) < length (x ∷ xs)) × (p (getD (x ∷ xs) (placeOf p (x ∷ xs)) d) ≡ true)
-  place-by x xs true e o k = (rw e (omega arith), rw e e)
-  place-by x xs false e o k =
-      let w = k (rw e at o) in
-      let l = w .0 in
-      (rw e (omega arith), rw e (w .1))
-
-  place-there : (xs : List A) → any p xs ≡ true → (placeOf p xs < length xs) × (p (getD xs (placeOf p xs) d) ≡ true)
-  place-there [] o = never (cc)
-  place-there (x ∷ xs) o = place-by x xs (p x) refl o (place-there xs)
 
 -- ---- every call
 

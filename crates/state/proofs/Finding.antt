@@ -12,7 +12,7 @@ use lib.Seq.{length-take-le, getD-take}
 use lib.Dec.{eqb, ltb, leb}
 use Rattle.layout.specs.Sizes.{numberLimit}
 use Rattle.layout.specs.Bytes.{both}
-use Rattle.layout.proofs.Tests.{both-left, both-right, lt-or-le}
+use Rattle.layout.proofs.Tests.{never, both-left, both-right, lt-or-le}
 use Rattle.state.proofs.Bools.{both-known, both-swap}
 use Rattle.state.specs.declared.Held.{Held}
 use Rattle.state.specs.declared.Query.{Query}
@@ -180,6 +180,21 @@ place-by p x xs false e h = rw e (omega arith)
 pub place-le : {A : Type 0} (p : A → Bool) (xs : List A) → placeOf p xs ≤ length xs
 place-le p [] = omega arith
 place-le p (x ∷ xs) = place-by p x xs (p x) refl (place-le p xs)
+
+-- the place of an element that passes
+module _ {A : Type 0} (p : A → Bool) (d : A) where
+  there-by : (x : A) (xs : List A) (b : Bool) → p x ≡ b → any p (x ∷ xs) ≡ true
+      → (any p xs ≡ true → (placeOf p xs < length xs) × (p (getD xs (placeOf p xs) d) ≡ true))
+      → (placeOf p (x ∷ xs) < length (x ∷ xs)) × (p (getD (x ∷ xs) (placeOf p (x ∷ xs)) d) ≡ true)
+  there-by x xs true e o k = (rw e (omega arith), rw e e)
+  there-by x xs false e o k =
+      let w = k (rw e at o) in
+      let l = w .0 in
+      (rw e (omega arith), rw e (w .1))
+
+  pub place-there : (xs : List A) → any p xs ≡ true → (placeOf p xs < length xs) × (p (getD xs (placeOf p xs) d) ≡ true)
+  place-there [] o = never (cc)
+  place-there (x ∷ xs) o = there-by x xs (p x) refl o (place-there xs)
 
 -- nothing passes exactly if the place is the length
 pub none-place : {A : Type 0} (p : A → Bool) (xs : List A) → eqb (placeOf p xs) (length xs) ≡ not (any p xs)

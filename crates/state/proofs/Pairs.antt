@@ -12,7 +12,7 @@ use lib.Dec.{ltb}
 use Rattle.layout.specs.Bytes.{both}
 use Rattle.layout.proofs.Tests.{both-left, both-right, lt-or-le}
 use Rattle.state.proofs.Bools.{both-intro, yes-both, no-both, both-yes, both-assoc, both-cross}
-use Rattle.state.specs.Lists.{any, all, pairs, placeOf}
+use Rattle.state.specs.Lists.{pick, any, all, pairs, placeOf}
 use Rattle.state.proofs.Loops.{any-found, any-none}
 use Rattle.state.proofs.Finding.{each-at, each-true}
 
@@ -81,6 +81,42 @@ module _ {A : Type 0} (p : A → A → Bool) where
   -- an element within: every one before it passes beside it
   pub pairs-before : (xs ys : List A) (y : A) → pairs p (xs ++ y ∷ ys) ≡ true → all (λ x. p x y) xs ≡ true
   pairs-before xs ys y e = both-right (pairs p xs) _ (sym (pairs-snoc xs y) ∙ pairs-left (xs ++ y ∷ []) ys (ap (pairs p) (append-assoc xs (y ∷ []) ys) ∙ e))
+
+pub all-imp : {A : Type 0} (p q : A → Bool) → ((x : A) → p x ≡ true → q x ≡ true) → (xs : List A) → all p xs ≡ true → all q xs ≡ true
+all-imp p q k [] e = refl
+all-imp p q k (x ∷ xs) e = both-intro _ _ (k x (both-left _ _ e)) (all-imp p q k xs (both-right (p x) _ e))
+
+pub any-append : {A : Type 0} (p : A → Bool) (xs ys : List A) → any p (xs ++ ys) ≡ pick (any p xs) true (any p ys)
+any-append p [] ys = refl
+any-append p (x ∷ xs) ys = at (p x) refl (any-append p xs ys)
+  where
+    at : (b : Bool) → p x ≡ b → any p (xs ++ ys) ≡ pick (any p xs) true (any p ys) → any p ((x ∷ xs) ++ ys) ≡ pick (any p (x ∷ xs)) true (any p ys)
+    at true e k = rw e
+    at false e k = rw e k
+
+-- one element put for another
+module _ {A : Type 0} (q p : A) (ys : List A) where
+  pub all-put : (r : A → Bool) (xs : List A) → all r (xs ++ q ∷ ys) ≡ true → r p ≡ true → all r (xs ++ p ∷ ys) ≡ true
+  all-put r xs e k =
+      all-append r xs (p ∷ ys) ∙ both-intro _ _ (all-left r xs (q ∷ ys) e) (both-intro _ _ k (both-right (r q) _ (all-right r xs (q ∷ ys) e)))
+
+  pub pairs-put : (r : A → A → Bool) (xs : List A) → pairs r (xs ++ q ∷ ys) ≡ true → all (λ x. r x p) xs ≡ true → all (r p) ys ≡ true → pairs r (xs ++ p ∷ ys) ≡ true
+  pairs-put r [] e a b = both-intro _ _ b (both-right (all (r q) ys) _ e)
+  pairs-put r (x ∷ xs) e a b =
+      both-intro _ _ (all-put (r x) xs (both-left _ _ e) (both-left _ _ a))
+      (pairs-put r xs (both-right (all (r x) (xs ++ q ∷ ys)) _ e) (both-right (r x p) _ a) b)
+
+  pub any-put : (r : A → Bool) (xs : List A) → r q ≡ false → any r (xs ++ q ∷ ys) ≡ true → any r (xs ++ p ∷ ys) ≡ true
+  any-put r [] z e = at (r p)
+    where
+      at : (b : Bool) → pick b true (any r ys) ≡ true
+      at true = refl
+      at false = rw z at e
+  any-put r (x ∷ xs) z e = by (r x) refl (any-put r xs z)
+    where
+      by : (b : Bool) → r x ≡ b → (any r (xs ++ q ∷ ys) ≡ true → any r (xs ++ p ∷ ys) ≡ true) → any r ((x ∷ xs) ++ p ∷ ys) ≡ true
+      by true w k = rw w
+      by false w k = rw w (k (rw w at e))
 
 -- the first elements of the first n
 pub take-split : {A : Type 0} (l : List A) (i n : ℕ) → i ≤ n → take n l ≡ take i l ++ slice i n l
