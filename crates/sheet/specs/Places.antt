@@ -8,11 +8,13 @@ use lib.ListN.{length, getD, take, drop}
 use lib.Dec.{ltb}
 use Rattle.layout.specs.Sizes.{fileEnd, largest}
 use Rattle.walk.specs.declared.Entry.{Entry}
+use Rattle.walk.specs.Entry.{dataOf}
 use Rattle.walk.specs.Walk.{noEntry}
 use Rattle.state.specs.Lists.{pick, all, filled}
 use Rattle.shore.specs.Cover.{spans}
 use Rattle.sheet.specs.declared.Piece.{Piece}
 use Rattle.sheet.specs.declared.Pieces.{Pieces}
+use Rattle.sheet.specs.declared.Found.{Found}
 use Rattle.sheet.specs.Sheet.{pieceSize, piece, gather}
 
 -- "oldest 32"
@@ -62,11 +64,34 @@ pub record Batch (es : List Entry) (n : ℕ) : Type 0 where
   pub most : (i : ℕ) → i < n → getD es i noEntry .length ≤ largest
   pub ends : (i : ℕ) → i < n → getD es i noEntry .offset + getD es i noEntry .length ≤ fileEnd
 
+-- and with its bytes in a ring of so many slots
+pub record Laid (slots : ℕ) (es : List Entry) (n : ℕ) : Type 0 where
+  pub batch : Batch es n
+  pub inside : (i : ℕ) → i < n → getD es i noEntry .slot < slots
+
+-- every byte of a piece is covered
+pub record Covered (es : List Entry) (n start size : ℕ) : Type 0 where
+  pub each : (p : ℕ) → start ≤ p → p < start + size → 0 < topOf es n p
+
+-- and so of all pieces
+pub record AllCovered (es : List Entry) (n : ℕ) (qs : List Piece) : Type 0 where
+  pub ends : (k : ℕ) → k < length qs → getD qs k noPiece .start + getD qs k noPiece .size ≤ fileEnd
+  pub each : (k : ℕ) → k < length qs → Covered es n (getD qs k noPiece .start) (getD qs k noPiece .size)
+
+-- byte p of the batch laid in number order, from the slots of a ring
+unfoldable pub byteBy : (ℕ → ℕ) → List Entry → ℕ → ℕ → ℕ
+byteBy f es n p = let e = getD es (topOf es n p - 1) noEntry in getD (dataOf f e) (p - e .offset) 0
+
 -- r is a place after p, at most e, and f is the same from p up to r
 pub record Steady {A : Type 0} (f : ℕ → A) (p e r : ℕ) : Type 0 where
   pub after : p < r
   pub most : r ≤ e
   pub same : (q : ℕ) → p ≤ q → q < r → f q ≡ f p
+
+-- what is found at p: the newest write, and a place up to which it stays the newest
+pub record FoundAt (es : List Entry) (n e p : ℕ) (r : Found) : Type 0 where
+  pub newest : r .newest ≡ topOf es n p
+  pub until : Steady (topOf es n) p e (r .until)
 
 -- r is the first covered place from a on, or e
 pub record First (key : ℕ → ℕ) (a e r : ℕ) : Type 0 where

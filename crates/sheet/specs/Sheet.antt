@@ -85,12 +85,12 @@ unfoldable pub listOf : List Piece → List ℕ
 listOf [] = []
 listOf (q ∷ qs) = (bytes4 (q .start) ++ bytes4 (q .size)) ++ listOf qs
 
-unfoldable pub dataOf : (ℕ → ℕ) → List Piece → List ℕ
-dataOf b [] = []
-dataOf b (q ∷ qs) = bytesAt b (q .start) (q .size) ++ dataOf b qs
+unfoldable pub dataBy : (ℕ → ℕ) → List Piece → List ℕ
+dataBy b [] = []
+dataBy b (q ∷ qs) = bytesAt b (q .start) (q .size) ++ dataBy b qs
 
 unfoldable pub sheetBy : (ℕ → ℕ) → ℕ → List Piece → List ℕ
-sheetBy b node qs = (bytes4 (length qs) ++ bytes4 node) ++ (listOf qs ++ dataOf b qs)
+sheetBy b node qs = (bytes4 (length qs) ++ bytes4 node) ++ (listOf qs ++ dataBy b qs)
 
 unfoldable pub sheetOf : ℕ → List Write → List ℕ
 sheetOf node ws = sheetBy (byteOf ws) node (piecesOf ws)

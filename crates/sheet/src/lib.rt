@@ -5,9 +5,13 @@ use walk::Entry;
 ghost use mathlib.Core.Path.{_≡_};
 ghost use mathlib.Core.List.{_++_};
 ghost use Prim.Native.Nat.{ℕ, _+_, _-_, _*_, _≤_, _<_};
-ghost use lib.ListN.{length, take, getD};
-ghost use Rattle.layout.specs.Sizes.{fileEnd};
-ghost use Rattle.sheet.specs.Places.{Batch, Steady, First, Ends, topOf, keyBy, keyAt};
+ghost use lib.ListN.{length, take, drop, getD, replicate};
+ghost use Rattle.layout.specs.Sizes.{fileEnd, largest};
+ghost use Rattle.walk.specs.Entry.{dataOf};
+ghost use Rattle.layout.specs.Bytes.{Sized, bytes4, bytesAt, round};
+ghost use Rattle.shore.specs.Cover.{spans};
+ghost use Rattle.sheet.specs.Sheet.{pieceSize, listOf, dataBy};
+ghost use Rattle.sheet.specs.Places.{Batch, Laid, Covered, AllCovered, byteBy, total, Steady, First, Ends, FoundAt, mostBatch, topOf, keyAt, keyBy, overlies, grow, inOrder, noPiece, piecesFrom, laidAt};
 
 // The most writes of a batch, and so the most pieces of its sheet.
 pub const BATCH: usize = 32;
@@ -43,4 +47,272 @@ fn key_of(newest: usize) -> usize
         return 0;
     }
     1
+}
+
+// Whether a write covers a place.
+fn is_over(entry: Entry, p: usize) -> bool
+    requires { ⌜ entry .offset + entry .length ≤ fileEnd ⌝ }
+    ensures { λ r. ⌜ r ≡ overlies p entry ⌝ }
+{
+    let start = entry.offset as usize;
+    let size = entry.length as usize;
+    if p < start {
+        return false;
+    }
+    if start + size <= p {
+        return false;
+    }
+    true
+}
+
+// A place after p, at most end, before which a write covers what it covers at p.
+fn nearer(entry: Entry, p: usize, end: usize) -> usize
+    requires { ⌜ (p < end) × (entry .offset + entry .length ≤ fileEnd) ⌝ }
+    ensures { λ r. ⌜ Steady (spans (entry .offset) (entry .length)) p end r ⌝ }
+{
+    let start = entry.offset as usize;
+    let size = entry.length as usize;
+    if p < start {
+        if start < end {
+            return start;
+        }
+        return end;
+    }
+    if p < start + size {
+        if start + size < end {
+            return start + size;
+        }
+    }
+    end
+}
+
+// The newest write that covers p, and how far it stays the newest, at most to end.
+fn find_at(entries: [Entry; BATCH], count: usize, end: usize, p: usize) -> Found
+    requires { ⌜ Batch entries count ⌝ }
+    requires { ⌜ p < end ⌝ }
+    ensures { λ r. ⌜ FoundAt entries count end p r ⌝ }
+{
+    let mut newest: usize = 0;
+    let mut until = end;
+    let mut i: usize = 0;
+    while i < count {
+        let entry = entries[i];
+        if is_over(entry, p) {
+            newest = i + 1;
+        }
+        until = nearer(entry, p, until);
+        i += 1;
+    }
+    Found { newest, until }
+}
+
+// The first covered place from `at` on, or end.
+fn next_start(entries: [Entry; BATCH], count: usize, end: usize, at: usize) -> usize
+    requires { ⌜ Batch entries count ⌝ }
+    requires { ⌜ at ≤ end ⌝ }
+    ensures { λ r. ⌜ First (keyBy entries count) at end r ⌝ }
+{
+    let mut s = at;
+    while s < end {
+        let found = find_at(entries, count, end, s);
+        if 0 < found.newest {
+            return s;
+        }
+        s = found.until;
+    }
+    s
+}
+
+// The lesser of end and s + 4,096.
+fn limit(end: usize, s: usize) -> usize
+    requires { ⌜ (s < end) × (end ≤ fileEnd) ⌝ }
+    ensures { λ r. ⌜ (s < r) × (r ≤ end) × (r ≤ s + pieceSize) × (r < s + pieceSize → r ≡ end) ⌝ }
+{
+    if end - s < PIECE {
+        return end;
+    }
+    s + PIECE
+}
+
+// Where the piece that starts at s ends.
+fn piece_end(entries: [Entry; BATCH], count: usize, end: usize, s: usize, key: usize) -> usize
+    requires { ⌜ Batch entries count ⌝ }
+    requires { ⌜ (s < end) × (end ≤ fileEnd) × key ≡ keyBy entries count s ⌝ }
+    ensures { λ r. ⌜ Ends (keyBy entries count) s end r ⌝ }
+{
+    let last = limit(end, s);
+    let mut e = s;
+    while e < last {
+        let found = find_at(entries, count, last, e);
+        if key_of(found.newest) != key {
+            return e;
+        }
+        e = found.until;
+    }
+    e
+}
+
+// The key of a place.
+fn key_at(entries: [Entry; BATCH], count: usize, p: usize) -> usize
+    requires { ⌜ Batch entries count ⌝ }
+    requires { ⌜ p < fileEnd ⌝ }
+    ensures { λ r. ⌜ r ≡ keyBy entries count p ⌝ }
+{
+    let found = find_at(entries, count, p + 1, p);
+    key_of(found.newest)
+}
+
+fn no_pieces() -> [Piece; BATCH]
+    ensures { λ r. ⌜ r ≡ replicate mostBatch noPiece ⌝ }
+{
+    [Piece {
+        start: 0,
+        size: 0,
+        key: 0,
+    }; BATCH]
+}
+
+// The pieces of a batch's sheet, ascending.
+pub fn pieces_of(entries: [Entry; BATCH], count: usize) -> Pieces
+    requires { ⌜ Batch entries count ⌝ }
+    ensures { λ r. ⌜ r ≡ piecesFrom (inOrder (grow (keyBy entries count) fileEnd)) ⌝ }
+{
+    let end = Ring::FILE_END as usize;
+    let mut list = no_pieces();
+    let mut many: usize = 0;
+    let mut size: usize = 0;
+    let mut s = next_start(entries, count, end, 0);
+    while s < end {
+        let key = key_at(entries, count, s);
+        let e = piece_end(entries, count, end, s, key);
+        list[many] = Piece {
+            start: s,
+            size: e - s,
+            key,
+        };
+        many += 1;
+        size += e - s;
+        s = next_start(entries, count, end, e);
+    }
+    Pieces {
+        count: many,
+        size,
+        list,
+    }
+}
+
+// A number as 4 bytes of the buffer.
+fn put_number(buffer: &mut [u8], at: usize, x: usize)
+    requires { ⌜ at + 4 ≤ length (now buffer) ⌝ }
+    ensures { λ _. ⌜ now (buffer .exit) ≡ laidAt (now (buffer .entry)) at (bytes4 x) ⌝ }
+{
+    buffer[at] = (x % 256) as u8;
+    buffer[at + 1] = (x / 256 % 256) as u8;
+    buffer[at + 2] = (x / 65536 % 256) as u8;
+    buffer[at + 3] = (x / 65536 / 256 % 256) as u8;
+}
+
+// Copies a write's bytes from byte `from` on into the part of a buffer from `start` up to `end`.
+fn put_span(
+    bytes: &[u8],
+    n: usize,
+    entry: Entry,
+    from: usize,
+    out: &mut [u8],
+    start: usize,
+    end: usize,
+)
+    requires { ⌜ Sized (now bytes) n ⌝ }
+    requires { ⌜ (entry .slot < n) × (entry .length ≤ largest) × (from + (end - start) ≤ entry .length) ⌝ }
+    requires { ⌜ (start ≤ end) × (end ≤ length (now out)) ⌝ }
+    ensures { λ _. ⌜ now (out .exit) ≡ take start (now (out .entry)) ++ take (end - start) (drop from (dataOf (round (now (bytes .entry)) n) entry)) ++ drop end (now (out .entry)) ⌝ }
+{
+    walk::entry_bytes(bytes, n, entry, from, &mut out[start..end]);
+}
+
+// The bytes of a piece, copied by spans: each from the newest write, as far as that is the newest.
+fn put_piece(
+    bytes: &[u8],
+    n: usize,
+    entries: [Entry; BATCH],
+    count: usize,
+    start: usize,
+    out: &mut [u8],
+)
+    requires { ⌜ Sized (now bytes) n ⌝ }
+    requires { ⌜ Laid n entries count ⌝ }
+    requires { ⌜ (start + length (now out) ≤ fileEnd) × Covered entries count start (length (now out)) ⌝ }
+    ensures { λ _. ⌜ now (out .exit) ≡ bytesAt (byteBy (round (now (bytes .entry)) n) entries count) start (length (now (out .entry))) ⌝ }
+{
+    let size = out.len();
+    let mut i: usize = 0;
+    while i < size {
+        let p = start + i;
+        let found = find_at(entries, count, start + size, p);
+        let entry = entries[found.newest - 1];
+        let from = p - entry.offset as usize;
+        let until = found.until - start;
+        put_span(bytes, n, entry, from, out, i, until);
+        i = until;
+    }
+}
+
+// The bytes of a piece, in the part of a buffer from `at` up to `end`.
+fn put_part(
+    bytes: &[u8],
+    n: usize,
+    entries: [Entry; BATCH],
+    count: usize,
+    start: usize,
+    buffer: &mut [u8],
+    at: usize,
+    end: usize,
+)
+    requires { ⌜ Sized (now bytes) n ⌝ }
+    requires { ⌜ Laid n entries count ⌝ }
+    requires { ⌜ (at ≤ end) × (end ≤ length (now buffer)) × (start + (end - at) ≤ fileEnd) × Covered entries count start (end - at) ⌝ }
+    ensures { λ _. ⌜ now (buffer .exit) ≡ laidAt (now (buffer .entry)) at (bytesAt (byteBy (round (now (bytes .entry)) n) entries count) start (end - at)) ⌝ }
+{
+    put_piece(bytes, n, entries, count, start, &mut buffer[at..end]);
+}
+
+// The offset and the length of each piece, behind the sheet's first 8 bytes.
+fn put_list(buffer: &mut [u8], list: [Piece; BATCH], many: usize)
+    requires { ⌜ (many ≤ mostBatch) × (8 + 8 * many ≤ length (now buffer)) ⌝ }
+    ensures { λ _. ⌜ now (buffer .exit) ≡ laidAt (now (buffer .entry)) 8 (listOf (take many list)) ⌝ }
+{
+    let mut k: usize = 0;
+    while k < many {
+        let piece = list[k];
+        put_number(buffer, 8 + 8 * k, piece.start);
+        put_number(buffer, 12 + 8 * k, piece.size);
+        k += 1;
+    }
+}
+
+// The bytes of all pieces, from `from` on.
+fn put_data(
+    bytes: &[u8],
+    n: usize,
+    entries: [Entry; BATCH],
+    count: usize,
+    list: [Piece; BATCH],
+    many: usize,
+    buffer: &mut [u8],
+    from: usize,
+)
+    requires { ⌜ Sized (now bytes) n ⌝ }
+    requires { ⌜ Laid n entries count ⌝ }
+    requires { ⌜ (many ≤ mostBatch) × (from + total (take many list) ≤ length (now buffer)) × AllCovered entries count (take many list) ⌝ }
+    ensures { λ _. ⌜ now (buffer .exit) ≡ laidAt (now (buffer .entry)) from (dataBy (byteBy (round (now (bytes .entry)) n) entries count) (take many list)) ⌝ }
+{
+    let mut at = from;
+    let mut k: usize = 0;
+    while k < many {
+        let piece = list[k];
+        let end = at + piece.size;
+        put_part(bytes, n, entries, count, piece.start, buffer, at, end);
+        at = end;
+        k += 1;
+    }
 }
