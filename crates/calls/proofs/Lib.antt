@@ -1,4 +1,3 @@
 pub mod Plain
-pub mod Changing
 pub mod Opening
 pub mod Unique

@@ -13,19 +13,20 @@ use Rattle.rules.specs.Call.{Call}
 use Rattle.rules.specs.Refusals.{order, first}
 use Rattle.rules.proofs.Order.{same-some}
 use Rattle.rules.specs.Outcome.{says, refuses, outcomeBy, outcome}
-use Rattle.calls.specs.declared.Numbered.{Numbered}
-use Rattle.calls.specs.declared.Numbered.the-variants as numbered
-use Rattle.calls.specs.declared.NumberedOut.{NumberedOut}
-use Rattle.calls.specs.declared.Ack.{Ack}
-use Rattle.calls.specs.declared.Ack.the-variants as ack
-use Rattle.calls.specs.declared.AckOut.{AckOut}
+use Rattle.change.specs.declared.Numbered.{Numbered}
+use Rattle.change.specs.declared.Numbered.the-variants as numbered
+use Rattle.change.specs.declared.NumberedOut.{NumberedOut}
+use Rattle.change.specs.declared.Ack.{Ack}
+use Rattle.change.specs.declared.Ack.the-variants as ack
+use Rattle.change.specs.declared.AckOut.{AckOut}
+use Rattle.change.specs.Answers.{saidNumber, saidDone}
 use Rattle.calls.specs.declared.Ended.{Ended}
 use Rattle.calls.specs.declared.Ended.the-variants as ended
 use Rattle.calls.specs.declared.Asked.{Asked}
 use Rattle.calls.specs.declared.Asked.the-variants as asked
 use Rattle.calls.specs.declared.Turn.{Turn}
 use Rattle.calls.specs.declared.Turn.the-variants as turn
-use Rattle.calls.specs.Answers.{saidNumber, saidDone, saidEnd, saidTicket, saidTurn}
+use Rattle.calls.specs.Answers.{saidEnd, saidTicket, saidTurn}
 
 -- ---- a refusal's number tells its reason, and is never 0
 

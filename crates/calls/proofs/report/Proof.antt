@@ -1,9 +1,9 @@
--- `calls::report` meets its contract: the judge's refusal, or `report_known`.
+-- `calls::report` meets its contract: the judge's refusal, or `change::report_known`.
 use borrow.Author.Needs.{needs}
 use denote.Ref.{now}
 use Rattle.rules.specs.Call.{report}
 use Rattle.rules.proofs.Judging.{known, judge-refuses}
-use Rattle.calls.proofs.Changing.{judges-report}
+use Rattle.change.proofs.Changing.{judges-report}
 use Rattle.calls.proofs.report.Statement.{statement}
 use Rattle.calls.proofs.report.Tie as tie
 

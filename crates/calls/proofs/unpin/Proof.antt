@@ -1,9 +1,9 @@
--- `calls::unpin` meets its contract: the judge's refusal, or `unpin_known`.
+-- `calls::unpin` meets its contract: the judge's refusal, or `change::unpin_known`.
 use borrow.Author.Needs.{needs}
 use denote.Ref.{now}
 use Rattle.rules.specs.Call.{unpin}
 use Rattle.rules.proofs.Judging.{known, judge-refuses}
-use Rattle.calls.proofs.Changing.{judges-unpin}
+use Rattle.change.proofs.Changing.{judges-unpin}
 use Rattle.calls.proofs.unpin.Statement.{statement}
 use Rattle.calls.proofs.unpin.Tie as tie
 

@@ -1,9 +1,9 @@
--- `calls::write` meets its contract: the judge's refusal, or `write_known`.
+-- `calls::write` meets its contract: the judge's refusal, or `change::write_known`.
 use borrow.Author.Needs.{needs}
 use denote.Ref.{now}
 use Rattle.rules.specs.Call.{write}
 use Rattle.rules.proofs.Judging.{known, judge-refuses}
-use Rattle.calls.proofs.Changing.{judges-write}
+use Rattle.change.proofs.Changing.{judges-write}
 use Rattle.calls.proofs.write.Statement.{statement}
 use Rattle.calls.proofs.write.Tie as tie
 

@@ -1,4 +1,4 @@
--- `calls::may_write` meets its contract: the order's rows for a write (`own-write`), one test at a time.
+-- `change::may_write` meets its contract: the order's rows for a write (`own-write`), one test at a time.
 use Prim.Native.Nat.{_≤_, _<_, _+_, _-_}
 use mathlib.Core.Path.{sym, _∙_, ap}
 use mathlib.Core.List.{[]}
@@ -9,9 +9,9 @@ use denote.Ref.{now}
 use lib.ListN.{length}
 use Rattle.layout.specs.Sizes.{largest, fileEnd, numberLimit, slotsOf}
 use Rattle.rules.proofs.Owning.{own-write}
-use Rattle.calls.specs.Answers.{mayOf}
-use Rattle.calls.proofs.may_write.Statement.{statement}
-use Rattle.calls.proofs.may_write.Tie as tie
+use Rattle.change.specs.Answers.{mayOf}
+use Rattle.change.proofs.may_write.Statement.{statement}
+use Rattle.change.proofs.may_write.Tie as tie
 
 returns : tie.Need-returns
 returns c =

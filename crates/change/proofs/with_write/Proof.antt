@@ -1,11 +1,11 @@
--- `calls::with_write` meets its contract: the new write stands behind the held ones.
+-- `change::with_write` meets its contract: the new write stands behind the held ones.
 use Prim.Native.Nat.{_<_}
 use native.Mathlib.Numerals.{add-one}
 use native.Mathlib.Omega.{arith}
 use lib.ListN.{length}
 use lib.Seq.{take-suc-set}
-use Rattle.calls.proofs.with_write.Statement.{statement}
-use Rattle.calls.proofs.with_write.Tie as tie
+use Rattle.change.proofs.with_write.Statement.{statement}
+use Rattle.change.proofs.with_write.Tie as tie
 
 mul-more : tie.Need-mul-more
 mul-more c = omega arith

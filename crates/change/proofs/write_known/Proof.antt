@@ -1,4 +1,4 @@
--- `calls::write_known` meets its contract: the laws of `Changing`.
+-- `change::write_known` meets its contract: the laws of `Changing`.
 use Prim.Native.Nat.{_<_, _+_, _%_}
 use mathlib.Core.Path.{refl}
 use native.Mathlib.Nat.{mod-lt}
@@ -8,9 +8,9 @@ use denote.Ref.{now}
 use lib.ListN.{length}
 use Rattle.rules.proofs.Owning.{sure}
 use Rattle.layout.proofs.Sizes.{slots-some}
-use Rattle.calls.proofs.Changing.{write-refused, writable, write-done}
-use Rattle.calls.proofs.write_known.Statement.{statement}
-use Rattle.calls.proofs.write_known.Tie as tie
+use Rattle.change.proofs.Changing.{write-refused, writable, write-done}
+use Rattle.change.proofs.write_known.Statement.{statement}
+use Rattle.change.proofs.write_known.Tie as tie
 
 may-write-requires : tie.Need-may-write-requires
 may-write-requires c κs = sure (now (c .before .before .args .bytes)) (c .before .before .args .s) _ _ _ (c .before .before .pre) .free

@@ -33,9 +33,9 @@ use Rattle.rules.specs.Outcome.{outcomeBy, says, refuses, newEntry, outcome}
 use Rattle.rules.specs.Known.{Known}
 use Rattle.rules.proofs.Judging.{Judges, judge-passes}
 use Rattle.rules.proofs.Owning.{own-write, own-unpin, own-report, sure, Writable, writes-when}
-use Rattle.calls.specs.declared.May.{May}
-use Rattle.calls.specs.declared.May.the-variants.{Go, Refused}
-use Rattle.calls.specs.Answers.{mayOf}
+use Rattle.change.specs.declared.May.{May}
+use Rattle.change.specs.declared.May.the-variants.{Go, Refused}
+use Rattle.change.specs.Answers.{mayOf}
 
 pub judges-write : (node handle offset : ℕ) (bs : List ℕ) → Judges (write node handle offset bs)
 judges-write node handle offset bs = record { reads = refl; fits = refl }

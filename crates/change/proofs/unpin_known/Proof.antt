@@ -1,13 +1,13 @@
--- `calls::unpin_known` meets its contract: the laws of `Changing`.
+-- `change::unpin_known` meets its contract: the laws of `Changing`.
 use native.Mathlib.Omega.{arith}
 use borrow.Author.Needs.{needs}
 use denote.Ref.{now}
 use Rattle.state.proofs.Lengths.{pins-long}
 use Rattle.state.proofs.PinTable.{place-below}
 use Rattle.rules.proofs.Owning.{sure}
-use Rattle.calls.proofs.Changing.{unpin-zero, unpin-none, unpin-done}
-use Rattle.calls.proofs.unpin_known.Statement.{statement}
-use Rattle.calls.proofs.unpin_known.Tie as tie
+use Rattle.change.proofs.Changing.{unpin-zero, unpin-none, unpin-done}
+use Rattle.change.proofs.unpin_known.Statement.{statement}
+use Rattle.change.proofs.unpin_known.Tie as tie
 
 not-done-requires : tie.Need-not-done-requires
 not-done-requires c κs = search needs

@@ -1,4 +1,4 @@
--- `calls::let_go` meets its contract: those that leave, then those that stay (`leave-drop`).
+-- `change::let_go` meets its contract: those that leave, then those that stay (`leave-drop`).
 use Prim.Native.Nat.{_<_, _+_, _%_}
 use mathlib.Core.Path.{_≡_, _∙_, ap}
 use native.Mathlib.Nat.{mod-lt}
@@ -11,8 +11,8 @@ use Rattle.state.specs.Lists.{withHeld}
 use Rattle.store.specs.Store.{headMoved}
 use Rattle.ring.specs.Ring.{slotAfter}
 use Rattle.state.proofs.LettingGo.{leave-drop, leave-few, leave-slots}
-use Rattle.calls.proofs.let_go.Statement.{statement}
-use Rattle.calls.proofs.let_go.Tie as tie
+use Rattle.change.proofs.let_go.Statement.{statement}
+use Rattle.change.proofs.let_go.Tie as tie
 
 leave-requires : tie.Need-leave-requires
 leave-requires c κs = search needs

@@ -1,4 +1,4 @@
--- `calls::report_known` meets its contract: the laws of `Changing`.
+-- `change::report_known` meets its contract: the laws of `Changing`.
 use mathlib.Core.Path.{_≡_}
 use mathlib.Core.Bool.{true, false}
 use native.Mathlib.Omega.{arith}
@@ -7,9 +7,9 @@ use denote.Ref.{now}
 use Rattle.state.specs.Moves.{good}
 use Rattle.state.proofs.Reports.{isGood}
 use Rattle.rules.proofs.Owning.{sure}
-use Rattle.calls.proofs.Changing.{report-none, report-other, moved-fits, moved-slots, report-good, report-bad}
-use Rattle.calls.proofs.report_known.Statement.{statement}
-use Rattle.calls.proofs.report_known.Tie as tie
+use Rattle.change.proofs.Changing.{report-none, report-other, moved-fits, moved-slots, report-good, report-bad}
+use Rattle.change.proofs.report_known.Statement.{statement}
+use Rattle.change.proofs.report_known.Tie as tie
 
 not-done-requires : tie.Need-not-done-requires
 not-done-requires c κs = search needs
