@@ -1,3 +1,4 @@
 pub mod Growing
 pub mod Right
 pub mod Few
+pub mod Cutting
