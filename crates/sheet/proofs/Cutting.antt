@@ -7,7 +7,7 @@ use mathlib.Core.Bool.{Bool, true, false}
 use mathlib.Core.Logic.{_⊎_, inl, inr}
 use mathlib.Core.List.{List, [], _∷_, _++_, append-assoc}
 use borrow.Author.Tests.{eqb-true, le-leb, lt-leb, eq-eqb, lt-ltb, le-ltb}
-use lib.Dec.{leb, ltb, eqb}
+use lib.Dec.{eqb}
 use Rattle.layout.specs.Bytes.{both}
 use Rattle.layout.proofs.Tests.{both-left, both-right, lt-or-le}
 use Rattle.walk.specs.Walk.{Write}
