@@ -2,3 +2,4 @@ pub mod Growing
 pub mod Right
 pub mod Few
 pub mod Cutting
+pub mod Covered
