@@ -3,3 +3,4 @@ pub mod Right
 pub mod Few
 pub mod Cutting
 pub mod Covered
+pub mod Reading
