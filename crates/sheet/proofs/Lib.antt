@@ -4,3 +4,4 @@ pub mod Few
 pub mod Cutting
 pub mod Covered
 pub mod Reading
+pub mod Laying
