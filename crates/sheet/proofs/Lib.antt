@@ -5,3 +5,7 @@ pub mod Walking
 pub mod Collecting
 pub mod Storing
 pub mod Spanning
+pub mod Cutting
+pub mod Covered
+pub mod Reading
+pub mod Laying
