@@ -26,6 +26,7 @@ use Rattle.sheet.specs.Sheet.{byteOf, keyOf, endOf, sheetBy, sheetOf, pu
 use Rattle.sheet.specs.Places.{grow, inOrder}
 use Rattle.sheet.proofs.Right.{AreThose, right}
 use Rattle.sheet.proofs.Cutting.{pieces-grown}
+use Rattle.sheet.proofs.Collecting.{order-length}
 use Rattle.sheet.proofs.Covered.{endsBy, end-within, grow-few, covered-key, bare-key, covered-below}
 use Rattle.sheet.proofs.Reading.{Fits, putsFor, read-back}
 
@@ -107,10 +108,6 @@ those-fit key e (q ∷ qs) g h =
 
 -- ---- a list turned round has the same pieces
 
-order-length : (qs : List Piece) → length (inOrder qs) ≡ length qs
-order-length [] = refl
-order-length (q ∷ qs) = length-append (inOrder qs) (q ∷ []) ∙ omega (arith, order-length qs)
-
 order-any : (p : Piece → Bool) (qs : List Piece) → any p (inOrder qs) ≡ any p qs
 order-any p [] = refl
 order-any p (q ∷ qs) = any-append p (inOrder qs) (q ∷ []) ∙ ap (λ (t : Bool). pick t true (any p (q ∷ []))) (order-any p qs) ∙ at (p q) (any p qs)
@@ -125,7 +122,7 @@ each-snoc : (P : Piece → Type 0) (qs : List Piece) (q : Piece) → Each P qs �
 each-snoc P [] q o k = (k, tt)
 each-snoc P (r ∷ qs) q o k = (o .0, each-snoc P qs q (o .1) k)
 
-order-each : (P : Piece → Type 0) (qs : List Piece) → Each P qs → Each P (inOrder qs)
+pub order-each : (P : Piece → Type 0) (qs : List Piece) → Each P qs → Each P (inOrder qs)
 order-each P [] o = tt
 order-each P (q ∷ qs) o = each-snoc P (inOrder qs) q (order-each P qs (o .1)) (o .0)
 

@@ -9,3 +9,5 @@ pub mod Cutting
 pub mod Covered
 pub mod Reading
 pub mod Laying
+pub mod Batches
+pub mod Making

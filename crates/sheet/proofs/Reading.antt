@@ -14,6 +14,7 @@ use Rattle.shore.specs.File.{Put, puts}
 use Rattle.sheet.specs.declared.Piece.{Piece}
 use Rattle.sheet.specs.Sheet.{piece, listOf, dataBy, sheetBy, nodeIn, piecesAt, putsAt, putsBy, putsIn}
 use Rattle.sheet.specs.Places.{total}
+use Rattle.sheet.proofs.Storing.{four-long, list-long, data-long}
 
 -- ---- bytes that stand at a place of a view
 
@@ -47,10 +48,6 @@ module _ (f : ℕ → ℕ) (p : ℕ) (xs ys : List ℕ) (k : Stands f p (xs ++ y
 abbrev pub wordEnd : ℕ
 wordEnd = 4294967296
 
-word-length : (x : ℕ) → length (bytes4 x) ≡ 4
-unfolding bytes4 bytes2
-word-length x = refl
-
 words-length : (x y : ℕ) → length (bytes4 x ++ bytes4 y) ≡ 8
 unfolding bytes4 bytes2
 words-length x y = refl
@@ -63,7 +60,7 @@ word-here x h =
     omega arith
 
 word-read : (f : ℕ → ℕ) (p x : ℕ) → x < wordEnd → Stands f p (bytes4 x) → number4 f p ≡ x
-word-read f p x h k = number4-same k (omega (arith, word-length x)) ∙ word-here x h
+word-read f p x h k = number4-same k (omega (arith, four-long x)) ∙ word-here x h
 
 -- ---- the list of pieces, and their bytes
 
@@ -81,18 +78,6 @@ unfoldable pub putsFor : (ℕ → ℕ) → List Piece → List Put
 putsFor b [] = []
 putsFor b (q ∷ qs) = puts (q .start) (bytesAt b (q .start) (q .size)) ++ putsFor b qs
 
-list-length : (qs : List Piece) → length (listOf qs) ≡ 8 * length qs
-unfolding listOf
-list-length [] = refl
-list-length (q ∷ qs) =
-    length-append (bytes4 (q .start) ++ bytes4 (q .size)) (listOf qs) ∙ omega (arith, words-length (q .start) (q .size), list-length qs)
-
-data-length : (b : ℕ → ℕ) (qs : List Piece) → length (dataBy b qs) ≡ total qs
-unfolding dataBy
-data-length b [] = refl
-data-length b (q ∷ qs) =
-    length-append (bytesAt b (q .start) (q .size)) (dataBy b qs) ∙ rw (bytes-length b (q .start) (q .size), data-length b qs)
-
 list-read : (f : ℕ → ℕ) (qs : List Piece) (p : ℕ) → Each Fits qs → Stands f p (listOf qs) → piecesAt f p (length qs) ≡ map unkeyed qs
 unfolding listOf piecesAt
 list-read f [] p o k = refl
@@ -101,7 +86,7 @@ list-read f (q ∷ qs) p o k =
     let z = bytes4 (q .size) in
     let pair : Stands f p (s ++ z) = stands-left f p (s ++ z) (listOf qs) k in
     let a : number4 f p ≡ q .start = word-read f p (q .start) (o .0 .start) (stands-left f p s z pair) in
-    let b : number4 f (p + 4) ≡ q .size = word-read f (p + 4) (q .size) (o .0 .size) (stands-right f p s z pair (p + 4) (ap (_+_ p) (word-length (q .start)))) in
+    let b : number4 f (p + 4) ≡ q .size = word-read f (p + 4) (q .size) (o .0 .size) (stands-right f p s z pair (p + 4) (ap (_+_ p) (four-long (q .start)))) in
     rw (a, b, list-read f qs (p + 8) (o .1) (stands-right f p (s ++ z) (listOf qs) k (p + 8) (ap (_+_ p) (words-length (q .start) (q .size)))))
 
 data-read : (f b : ℕ → ℕ) (qs : List Piece) (p : ℕ) → Stands f p (dataBy b qs) → putsAt f p (map unkeyed qs) ≡ putsFor b qs
@@ -123,7 +108,7 @@ module _ (b : ℕ → ℕ) (node : ℕ) (qs : List Piece) where
   unfolding sheetBy
   sheet-length =
       length-append heads (listOf qs ++ dataBy b qs)
-      ∙ omega (arith, words-length (length qs) node, length-append (listOf qs) (dataBy b qs), list-length qs, data-length b qs)
+      ∙ omega (arith, words-length (length qs) node, length-append (listOf qs) (dataBy b qs), list-long qs, data-long b qs)
 
   module _ (tail : List ℕ) where
     abbrev view : ℕ → ℕ
@@ -141,13 +126,13 @@ module _ (b : ℕ → ℕ) (node : ℕ) (qs : List Piece) where
 
     pub read-node : node < wordEnd → nodeIn (sheetBy b node qs ++ tail) ≡ node
     unfolding nodeIn
-    read-node h = word-read view 4 node h (stands-right view 0 (bytes4 (length qs)) (bytes4 node) front 4 (ap (_+_ 0) (word-length (length qs))))
+    read-node h = word-read view 4 node h (stands-right view 0 (bytes4 (length qs)) (bytes4 node) front 4 (ap (_+_ 0) (four-long (length qs))))
 
     pub read-back : length qs < wordEnd → Each Fits qs → putsIn (sheetBy b node qs ++ tail) ≡ putsFor b qs
     unfolding putsIn
     read-back h o =
         let count : number4 view 0 ≡ length qs = word-read view 0 (length qs) h (stands-left view 0 (bytes4 (length qs)) (bytes4 node) front) in
-        let l : 8 + length (listOf qs) ≡ 8 + 8 * length qs = ap (_+_ 8) (list-length qs) in
+        let l : 8 + length (listOf qs) ≡ 8 + 8 * length qs = ap (_+_ 8) (list-long qs) in
         ap (putsBy view) count
         ∙ ap (putsAt view (8 + 8 * length qs)) (list-read view qs 8 o (stands-left view 8 (listOf qs) (dataBy b qs) rest))
         ∙ data-read view b qs (8 + 8 * length qs) (stands-right view 8 (listOf qs) (dataBy b qs) rest (8 + 8 * length qs) l)

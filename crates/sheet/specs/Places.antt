@@ -15,6 +15,8 @@ use Rattle.shore.specs.Cover.{spans}
 use Rattle.sheet.specs.declared.Piece.{Piece}
 use Rattle.sheet.specs.declared.Pieces.{Pieces}
 use Rattle.sheet.specs.declared.Found.{Found}
+use Rattle.sheet.specs.declared.Made.{Made}
+use Rattle.sheet.specs.declared.Made.the-variants.{Sheet, Short}
 use Rattle.sheet.specs.Sheet.{pieceSize, piece, gather}
 
 -- "oldest 32"
@@ -115,3 +117,10 @@ laidAt d p bs = take p d ++ (bs ++ drop (p + length bs) d)
 -- the code's list of pieces: as many as there are, with their bytes counted, and nothing behind them
 abbrev pub piecesFrom : List Piece → Pieces
 piecesFrom qs = record { count = length qs; size = total qs; list = filled mostBatch noPiece qs }
+
+-- the sheet laid in the front of a buffer that is long enough
+abbrev pub laidIf : List ℕ → List ℕ → List ℕ
+laidIf d sheet = pick (ltb (length d) (length sheet)) d (laidAt d 0 sheet)
+
+abbrev pub madeFrom : ℕ → List ℕ → Made
+madeFrom size sheet = pick (ltb size (length sheet)) Short (Sheet (length sheet))

@@ -3,15 +3,16 @@
 use layout::Ring;
 use walk::Entry;
 ghost use mathlib.Core.Path.{_≡_};
-ghost use mathlib.Core.List.{_++_};
+ghost use mathlib.Core.List.{_++_, map};
 ghost use Prim.Native.Nat.{ℕ, _+_, _-_, _*_, _≤_, _<_};
 ghost use lib.ListN.{length, take, drop, getD, replicate};
 ghost use Rattle.layout.specs.Sizes.{fileEnd, largest};
 ghost use Rattle.walk.specs.Entry.{dataOf};
+ghost use Rattle.walk.specs.Walk.{writeOf};
 ghost use Rattle.layout.specs.Bytes.{Sized, bytes4, bytesAt, round};
 ghost use Rattle.shore.specs.Cover.{spans};
-ghost use Rattle.sheet.specs.Sheet.{pieceSize, listOf, dataBy};
-ghost use Rattle.sheet.specs.Places.{Batch, Laid, Covered, AllCovered, byteBy, total, Steady, First, Ends, FoundAt, mostBatch, topOf, keyAt, keyBy, overlies, grow, inOrder, noPiece, piecesFrom, laidAt};
+ghost use Rattle.sheet.specs.Sheet.{pieceSize, listOf, dataBy, sheetOf};
+ghost use Rattle.sheet.specs.Places.{Batch, Laid, Covered, AllCovered, byteBy, total, Steady, First, Ends, FoundAt, mostBatch, topOf, keyAt, keyBy, overlies, grow, inOrder, noPiece, piecesFrom, laidAt, laidIf, madeFrom};
 
 // The most writes of a batch, and so the most pieces of its sheet.
 pub const BATCH: usize = 32;
@@ -315,4 +316,56 @@ fn put_data(
         at = end;
         k += 1;
     }
+}
+
+// The whole sheet, in a buffer that is long enough.
+fn put_sheet(
+    bytes: &[u8],
+    n: usize,
+    entries: [Entry; BATCH],
+    count: usize,
+    node: u32,
+    list: [Piece; BATCH],
+    many: usize,
+    buffer: &mut [u8],
+)
+    requires { ⌜ Sized (now bytes) n ⌝ }
+    requires { ⌜ Laid n entries count ⌝ }
+    requires { ⌜ (many ≤ mostBatch) × (many ≡ length (take many list)) × (take many list ≡ inOrder (grow (keyBy entries count) fileEnd)) × (8 + 8 * many + total (take many list) ≤ length (now buffer)) ⌝ }
+    ensures { λ _. ⌜ now (buffer .exit) ≡ laidAt (now (buffer .entry)) 0 (sheetOf node (map (writeOf (round (now (bytes .entry)) n)) (take count entries))) ⌝ }
+{
+    put_number(buffer, 0, many);
+    put_number(buffer, 4, node as usize);
+    put_list(buffer, list, many);
+    put_data(bytes, n, entries, count, list, many, buffer, 8 + 8 * many);
+}
+
+// A sheet of so many bytes, or a buffer too short for it.
+pub enum Made {
+    Sheet(usize),
+    Short,
+}
+
+// The sheet of a batch, written to the front of a buffer, if it is long enough; else the buffer stays as it was.
+pub fn make_sheet(
+    bytes: &[u8],
+    n: usize,
+    entries: [Entry; BATCH],
+    count: usize,
+    node: u32,
+    buffer: &mut [u8],
+) -> Made
+    requires { ⌜ Sized (now bytes) n ⌝ }
+    requires { ⌜ Laid n entries count ⌝ }
+    ensures made { λ r. ⌜ r ≡ madeFrom (length (now (buffer .entry))) (sheetOf node (map (writeOf (round (now (bytes .entry)) n)) (take count entries))) ⌝ }
+    ensures buffer { λ _. ⌜ now (buffer .exit) ≡ laidIf (now (buffer .entry)) (sheetOf node (map (writeOf (round (now (bytes .entry)) n)) (take count entries))) ⌝ }
+{
+    let pieces = pieces_of(entries, count);
+    let length = 8 + 8 * pieces.count + pieces.size;
+    if buffer.len() < length {
+        return Made::Short;
+    }
+    let list = pieces.list;
+    put_sheet(bytes, n, entries, count, node, list, pieces.count, buffer);
+    Made::Sheet(length)
 }
