@@ -16,7 +16,7 @@ use Rattle.layout.specs.Bytes.{both}
 use Rattle.layout.specs.declared.Ring.{Ring}
 use Rattle.layout.proofs.Tests.{never}
 use Rattle.walk.specs.declared.Entry.{Entry}
-use Rattle.walk.specs.Walk.{slotsUsed}
+use Rattle.walk.specs.Walk.{readable, slotsUsed}
 use Rattle.store.specs.Store.{stored, headMoved}
 use Rattle.ring.specs.Ring.{slotAfter}
 use Rattle.state.specs.declared.State.{State}
@@ -54,7 +54,7 @@ module _ (r : List ℕ) (s : State) (g : Ring) (count : ℕ) (held : List Held) 
 
   module _ (number : ℕ) where
     no-pin : both (ltb 0 number) (hasPin number (s .pins)) ≡ false → outcomeBy (refuses NoSuchPin) s r ≡ outcome (unpin number) r s
-    no-pin e = sym (judge-passes (unpin number) (judges-unpin number) r s g count held k ∙ rw (own-unpin r g s number, e))
+    no-pin e = sym (judge-passes (unpin number) (judges-unpin number) r s g count held k ∙ rw (own-unpin r (readable g (k .entries)) s number, e))
 
     pub unpin-zero : number ≡ 0 → outcomeBy (refuses NoSuchPin) s r ≡ outcome (unpin number) r s
     unpin-zero z = no-pin (rw z (no-both (hasPin 0 (s .pins))))
@@ -69,13 +69,13 @@ module _ (r : List ℕ) (s : State) (g : Ring) (count : ℕ) (held : List Held) 
           → outcomeBy (says []) t r′ ≡ outcome (unpin number) r s
       unpin-done z n t r′ et er =
           let o : both (ltb 0 number) (hasPin number (s .pins)) ≡ true = both-intro _ _ (lt-ltb 0 number (omega (arith, n))) (place-some (s .pins) number place l e z) in
-          sym (judge-passes (unpin number) (judges-unpin number) r s g count held k ∙ rw (own-unpin r g s number, o, et, er, ← place-is (s .pins) number place l e))
+          sym (judge-passes (unpin number) (judges-unpin number) r s g count held k ∙ rw (own-unpin r (readable g (k .entries)) s number, o, et, er, ← place-is (s .pins) number place l e))
 
   -- ---- report
 
   module _ (number : ℕ) (went : Bool) where
     not-flush : both (ltb 0 (s .flush)) (eqb number (s .flush)) ≡ false → outcomeBy (refuses NotTheFlush) s r ≡ outcome (report number went) r s
-    not-flush e = sym (judge-passes (report number went) (judges-report number went) r s g count held k ∙ rw (own-report r g s number went, e))
+    not-flush e = sym (judge-passes (report number went) (judges-report number went) r s g count held k ∙ rw (own-report r (readable g (k .entries)) s number went, e))
 
     pub report-none : s .flush ≡ 0 → outcomeBy (refuses NotTheFlush) s r ≡ outcome (report number went) r s
     report-none z = not-flush (ap (λ b. both b (eqb number (s .flush))) (le-ltb 0 (s .flush) (omega arith)) ∙ no-both (eqb number (s .flush)))
@@ -112,16 +112,16 @@ module _ (r : List ℕ) (s : State) (g : Ring) (count : ℕ) (held : List Held) 
         → r′ ≡ headMoved r (slotAfter g (slotsLeft (s .pins) (take count moved)))
         → outcomeBy (says []) t r′ ≡ outcome (report number true) r s
     report-good e et er =
-        sym (judge-passes (report number true) (judges-report number true) r s g count held k ∙ rw (own-report r g s number true, is-flush number true z q, et, er, moved-front good isGood moved e))
+        sym (judge-passes (report number true) (judges-report number true) r s g count held k ∙ rw (own-report r (readable g (k .entries)) s number true, is-flush number true z q, et, er, moved-front good isGood moved e))
 
     pub report-bad : moved ≡ map (reported bad) (take count held) ++ drop count held
         → t ≡ withHeld (withFlush s 0) (take count moved) → outcomeBy (says []) t r ≡ outcome (report number false) r s
     report-bad e et =
-        sym (judge-passes (report number false) (judges-report number false) r s g count held k ∙ rw (own-report r g s number false, is-flush number false z q, et, moved-front bad isBad moved e))
+        sym (judge-passes (report number false) (judges-report number false) r s g count held k ∙ rw (own-report r (readable g (k .entries)) s number false, is-flush number false z q, et, moved-front bad isBad moved e))
 
   -- ---- write
 
-  module _ (node handle offset : ℕ) (bs : List ℕ) (m : May) (em : m ≡ mayOf (own (write node 0 offset bs) [] g s)) where
+  module _ (node handle offset : ℕ) (bs : List ℕ) (m : May) (em : m ≡ mayOf (own (write node 0 offset bs) [] (readable g []) s)) where
     may-none : (x : Option Reason) → mayOf x ≡ Go → x ≡ none
     may-none none e = refl
     may-none (some why) e = never (cc)
@@ -130,15 +130,15 @@ module _ (r : List ℕ) (s : State) (g : Ring) (count : ℕ) (held : List Held) 
     may-some none why e = never (cc)
     may-some (some w) why e = ap some (same-may w why e)
 
-    same : own (write node handle offset bs) r g s ≡ own (write node 0 offset bs) [] g s
-    same = own-write r g s node handle offset bs ∙ sym (own-write [] g s node 0 offset bs)
+    same : own (write node handle offset bs) r (readable g (k .entries)) s ≡ own (write node 0 offset bs) [] (readable g []) s
+    same = own-write r (readable g (k .entries)) s node handle offset bs ∙ sym (own-write [] (readable g []) s node 0 offset bs)
 
     pub write-refused : (why : Reason) → m ≡ Refused why → outcomeBy (refuses why) s r ≡ outcome (write node handle offset bs) r s
     write-refused why e =
         sym (judge-passes (write node handle offset bs) (judges-write node handle offset bs) r s g count held k ∙ rw (same ∙ may-some _ why (sym em ∙ e)))
 
     module _ (e : m ≡ Go) where
-      goes : own (write node 0 offset bs) [] g s ≡ none
+      goes : own (write node 0 offset bs) [] (readable g []) s ≡ none
       goes = may-none _ (sym em ∙ e)
 
       pub writable : Writable g s node offset (length bs)

@@ -18,7 +18,7 @@ ghost use Prim.Native.Nat.{_+_, _≤_, _<_};
 ghost use lib.ListN.{take};
 ghost use Rattle.layout.specs.Sizes.{mostEntries, numberLimit};
 ghost use Rattle.layout.specs.Bytes.{Sized};
-ghost use Rattle.walk.specs.Walk.{slotsUsed};
+ghost use Rattle.walk.specs.Walk.{readable, slotsUsed};
 ghost use Rattle.store.specs.Store.{headMoved};
 ghost use Rattle.ring.specs.Ring.{slotAfter};
 ghost use Rattle.state.specs.Lists.{all, phaseFits, entryOf, unflushed, withNext, withHeld};
@@ -168,7 +168,7 @@ pub fn report_known(
 // A write's own refusals, in the order.
 fn may_write(s: State, ring: Ring, node: u32, offset: u32, src: &[u8]) -> May
     requires { ⌜ ring .used < ring .n ⌝ }
-    ensures { λ m. ⌜ m ≡ mayOf (own (write node 0 offset (now (src .entry))) [] ring s) ⌝ }
+    ensures { λ m. ⌜ m ≡ mayOf (own (write node 0 offset (now (src .entry))) [] (readable ring []) s) ⌝ }
 {
     let length = src.len();
     if node == 0 {

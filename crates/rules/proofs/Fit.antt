@@ -208,7 +208,7 @@ not-yes true e = never (cc)
 not-yes false e = refl
 
 -- a test of each of the three states that a held write can be in
-each-phase : (f : ℕ → Bool) → all f (0 ∷ 1 ∷ 2 ∷ []) ≡ true → (p : ℕ) → p < gone → f p ≡ true
+pub each-phase : (f : ℕ → Bool) → all f (0 ∷ 1 ∷ 2 ∷ []) ≡ true → (p : ℕ) → p < gone → f p ≡ true
 each-phase f e zero h = both-left _ _ e
 each-phase f e (suc zero) h = both-left _ _ (both-right (f 0) _ e)
 each-phase f e (suc (suc zero)) h = both-left _ _ (both-right (f 1) _ (both-right (f 0) _ e))
@@ -243,7 +243,7 @@ reported-phase event h = at (eqb (h .phase) inFlight)
     at true = refl
     at false = refl
 
-apart : (p q : ℕ) → eqb p inFlight ≡ false → nodesFit p q ≡ true
+pub apart : (p q : ℕ) → eqb p inFlight ≡ false → nodesFit p q ≡ true
 unfolding nodesFit both
 apart p q e = rw e
 

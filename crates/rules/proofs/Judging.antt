@@ -24,7 +24,7 @@ use Rattle.judge.proofs.Fitting.{list-length, holding-length}
 use Rattle.judge.proofs.Rules.{fits-sound}
 use Rattle.rules.specs.Call.{Call, makes, reopens, isOne}
 use Rattle.rules.specs.Refusals.{order, refusalOf, own}
-use Rattle.rules.specs.Outcome.{outcomeBy, refuses, doneBy, unless, outcome}
+use Rattle.rules.specs.Outcome.{lentBy, refuses, doneBy, unless, outcome}
 use Rattle.rules.specs.Known.{Known}
 
 -- a call that tests 8 and 12
@@ -95,17 +95,17 @@ module _ (c : Call) (o : Judges c) (r : List ℕ) (s : State) where
   refused-at why j unreadable q e v = unreadable-refused q ∙ ap some (same-reason _ _ (ap (λ x. x .verdict) (sym e) ∙ v))
   refused-at why j (readable h es) q e v = refused-by why h es j (fits es s) q refl e v
 
-  pub judge-refuses : (why : Reason) (j : Judged) → j ≡ judgedOf (readingOf r) s → j .verdict ≡ Refused why → outcomeBy (refuses why) s r ≡ outcome c r s
+  pub judge-refuses : (why : Reason) (j : Judged) → j ≡ judgedOf (readingOf r) s → j .verdict ≡ Refused why → lentBy (refuses why) s r (c .buffer) ≡ outcome c r s
   unfolding outcome
   judge-refuses why j e v = rw (refused-at why j (readingOf r) refl e v)
 
 -- ---- what it lets pass goes by the rest of the order
 
 module _ (c : Call) (o : Judges c) (r : List ℕ) (s : State) (g : Ring) (count : ℕ) (held : List Held) (k : Known r s g count held) where
-  pub passes : refusalOf c r s ≡ own c r g s
+  pub passes : refusalOf c r s ≡ own c r (readable g (k .entries)) s
   unfolding refusalOf both
   passes = rw (k .reading, o .reads, o .fits, k .fit)
 
-  pub judge-passes : outcome c r s ≡ unless (own c r g s) r s (doneBy (c .kind) c g (k .entries) (take count held) r s)
+  pub judge-passes : outcome c r s ≡ unless (own c r (readable g (k .entries)) s) r s (c .buffer) (doneBy (c .kind) c g (k .entries) (take count held) r s)
   unfolding outcome
   judge-passes = rw (passes, k .reading, k .front)

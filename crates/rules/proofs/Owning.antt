@@ -9,22 +9,24 @@ use borrow.Author.Tests.{leb-true, ltb-true, ltb-false, eqb-false}
 use lib.ListN.{length, take}
 use lib.Dec.{eqb, ltb}
 use Rattle.reason.specs.declared.Reason.{Reason}
-use Rattle.reason.specs.declared.Reason.the-variants.{NodeZero, BadLength, PastFileEnd, NoRoom, NoNumber, NotTheFlush, NoSuchPin, TooManyPins}
+use Rattle.reason.specs.declared.Reason.the-variants.{NodeZero, BadLength, PastFileEnd, NoRoom, NoNumber, FlushUnderWay, NotTheFlush, NoSuchPin, TooManyPins, BadBuffer}
 use Rattle.layout.specs.Sizes.{mostEntries, numberLimit, largest, fileEnd, slotsOf}
 use Rattle.layout.specs.Bytes.{both, Sized}
 use Rattle.layout.specs.declared.Ring.{Ring}
 use Rattle.layout.proofs.Tests.{never, both-left, both-right}
-use Rattle.walk.specs.Walk.{slotsUsed}
+use Rattle.walk.specs.Walk.{Reading, readable, slotsUsed}
 use Rattle.walk.proofs.Chain.{used-length}
 use Rattle.ring.proofs.Laws.{readable-facts}
 use Rattle.state.specs.declared.State.{State}
 use Rattle.state.specs.declared.Held.{Held}
 use Rattle.state.specs.Lists.{pick, all, listed, entryOf, phaseFits, RisingTo}
-use Rattle.state.specs.Pins.{hasPin}
+use Rattle.state.specs.Pins.{hasPin, hasPinFor}
 use Rattle.judge.specs.Fits.{nextFits}
 use Rattle.judge.proofs.Fitting.{list-length, holding-length, holding-entries, holding-rising, holding-below, holding-phases}
 use Rattle.judge.proofs.Rules.{fits-sound}
-use Rattle.rules.specs.Call.{write, pin, unpin, askEnd, report, takeTicket, askTicket, askTurn}
+use Rattle.rules.specs.Call.{write, pin, unpin, askEnd, report, startFlush, fillRead, takeTicket, askTicket, askTurn, ringOf, heldOf}
+use Rattle.rules.specs.Flush.{hasBatch, sheetFor}
+use Rattle.rules.specs.Fill.{longestFill}
 use Rattle.rules.specs.Known.{Known}
 use Rattle.rules.specs.Refusals.{own}
 
@@ -32,43 +34,59 @@ use Rattle.rules.specs.Refusals.{own}
 abbrev pub or : Bool → Reason → Option Reason → Option Reason
 or b why rest = pick b (some why) rest
 
-module _ (r : List ℕ) (g : Ring) (s : State) where
-  pub own-write : (node handle offset : ℕ) (bs : List ℕ) → own (write node handle offset bs) r g s
+module _ (r : List ℕ) (x : Reading) (s : State) where
+  pub own-write : (node handle offset : ℕ) (bs : List ℕ) → own (write node handle offset bs) r x s
       ≡ or (eqb node 0) NodeZero
       (or (pick (eqb (length bs) 0) true (ltb largest (length bs))) BadLength
       (or (ltb fileEnd (offset + length bs)) PastFileEnd
       (or (eqb (s .next) numberLimit) NoNumber
-      (or (ltb (g .n - 1 - g .used) (slotsOf (length bs))) NoRoom none))))
+      (or (ltb (ringOf x .n - 1 - ringOf x .used) (slotsOf (length bs))) NoRoom none))))
   unfolding both
   own-write node handle offset bs = refl
 
-  pub own-pin : (node : ℕ) → own (pin node) r g s ≡ or (not (hasPin 0 (s .pins))) TooManyPins (or (eqb (s .next) numberLimit) NoNumber none)
+  pub own-pin : (node : ℕ) → own (pin node) r x s ≡ or (not (hasPin 0 (s .pins))) TooManyPins (or (eqb (s .next) numberLimit) NoNumber none)
   unfolding both
   own-pin node = refl
 
-  pub own-unpin : (number : ℕ) → own (unpin number) r g s ≡ or (not (both (ltb 0 number) (hasPin number (s .pins)))) NoSuchPin none
+  pub own-unpin : (number : ℕ) → own (unpin number) r x s ≡ or (not (both (ltb 0 number) (hasPin number (s .pins)))) NoSuchPin none
   unfolding both
   own-unpin number = refl
 
-  pub own-end : (node : ℕ) → own (askEnd node) r g s ≡ or (eqb node 0) NodeZero none
+  pub own-end : (node : ℕ) → own (askEnd node) r x s ≡ or (eqb node 0) NodeZero none
   unfolding both
   own-end node = refl
 
-  pub own-report : (number : ℕ) (good : Bool) → own (report number good) r g s ≡ or (not (both (ltb 0 (s .flush)) (eqb number (s .flush)))) NotTheFlush none
+  pub own-report : (number : ℕ) (good : Bool) → own (report number good) r x s ≡ or (not (both (ltb 0 (s .flush)) (eqb number (s .flush)))) NotTheFlush none
   unfolding both
   own-report number good = refl
 
-  pub own-ticket : own takeTicket r g s ≡ or (eqb (s .next) numberLimit) NoNumber none
+  pub own-ticket : own takeTicket r x s ≡ or (eqb (s .next) numberLimit) NoNumber none
   unfolding both
   own-ticket = refl
 
-  pub own-ask : (ticket node : ℕ) → own (askTicket ticket node) r g s ≡ none
+  pub own-ask : (ticket node : ℕ) → own (askTicket ticket node) r x s ≡ none
   unfolding both
   own-ask ticket node = refl
 
-  pub own-turn : own askTurn r g s ≡ none
+  pub own-turn : own askTurn r x s ≡ none
   unfolding both
   own-turn = refl
+
+  pub own-start : (node : ℕ) (buffer : List ℕ) → own (startFlush node buffer) r x s
+      ≡ or (eqb node 0) NodeZero
+      (or (ltb 0 (s .flush)) FlushUnderWay
+      (or (both (hasBatch node (heldOf x s)) (eqb (s .next) numberLimit)) NoNumber
+      (or (both (hasBatch node (heldOf x s)) (ltb (length buffer) (length (sheetFor node r (ringOf x) (heldOf x s))))) BadBuffer none)))
+  unfolding both
+  own-start node buffer = refl
+
+  pub own-fill : (number node offset fetched : ℕ) (buffer : List ℕ) → own (fillRead number node offset fetched buffer) r x s
+      ≡ or (eqb node 0) NodeZero
+      (or (ltb fileEnd (offset + length buffer)) PastFileEnd
+      (or (not (both (ltb 0 number) (hasPinFor number node (s .pins)))) NoSuchPin
+      (or (pick (ltb (length buffer) fetched) true (ltb longestFill (length buffer))) BadBuffer none)))
+  unfolding both
+  own-fill number node offset fetched buffer = refl
 
 -- ---- what a write that isn't refused keeps
 
@@ -89,9 +107,9 @@ pub pick-false : (a b : Bool) → pick a true b ≡ false → (a ≡ false) × (
 pick-false true b e = never (cc)
 pick-false false b e = (refl, e)
 
-pub writes-when : (g : Ring) (s : State) (node offset : ℕ) (bs : List ℕ) → own (write node 0 offset bs) [] g s ≡ none → Writable g s node offset (length bs)
+pub writes-when : (g : Ring) (s : State) (node offset : ℕ) (bs : List ℕ) → own (write node 0 offset bs) [] (readable g []) s ≡ none → Writable g s node offset (length bs)
 writes-when g s node offset bs e =
-    let a = or-none _ _ _ (sym (own-write [] g s node 0 offset bs) ∙ e) in
+    let a = or-none _ _ _ (sym (own-write [] (readable g []) s node 0 offset bs) ∙ e) in
     let b = or-none _ _ _ (a .1) in
     let c = or-none _ _ _ (b .1) in
     let d = or-none _ _ _ (c .1) in

@@ -24,6 +24,7 @@ use Rattle.state.specs.declared.Pin.{Pin}
 use Rattle.state.specs.declared.Held.{Held}
 use Rattle.state.specs.Lists.{unflushed, noPin, listed, holding, entryOf, withNext, withFlush, withPins, withHeld}
 use Rattle.state.specs.Moves.{good, bad, reported}
+use Rattle.state.specs.Batch.{mostBatch, takenOf}
 use Rattle.state.specs.Pins.{leaving, staying, slotsLeft}
 use Rattle.state.proofs.Bools.{both-intro}
 use Rattle.state.proofs.LettingGo.{leave-split}
@@ -34,6 +35,8 @@ use Rattle.judge.proofs.Rules.{IsFit}
 use Rattle.rules.specs.Call.{Call}
 use Rattle.rules.specs.Outcome.{newEntry}
 use Rattle.rules.proofs.Owning.{next-facts, Writable}
+use Rattle.rules.specs.Flush.{hasBatch}
+use Rattle.rules.proofs.Taking.{taken-entries, those-some, fit-start}
 use Rattle.rules.proofs.Fit.{HeldFit, fit-of, fit-back, list-grows, bounds-grow, pins-grow, fit-write, fit-leave, fit-reported, fit-kept, bad-head, pins-pinned, pins-unpinned, head-pinned}
 
 -- arguments of a call that are numbers of their types
@@ -116,6 +119,19 @@ module _ (r : List ℕ) (s : State) (k : Stands r s) where
         entries = map entryOf (map (reported bad) hs);
         reading = k .reading ∙ ap (readable (k .ring)) (sym (report-entries bad hs ∙ hs-entries));
         fit = fit-of (withFlush s 0) (map (reported bad) hs) (fit-kept bad isBad (s .next) (s .flush) (s .pins) hs hs-fit (bad-head (s .pins) hs (hs-fit .head)));
+      }
+
+  -- a flush start: the batch is taken under the next number
+  pub stands-start : (node : ℕ) → s .flush ≤ 0 → s .next + 1 ≤ numberLimit → hasBatch node hs ≡ true → Stands r (withNext (withFlush (withHeld s (takenOf node hs)) (s .next)) (s .next + 1))
+  stands-start node z l b =
+      let w : s .flush ≡ 0 = omega arith in
+      let t : State = withNext (withFlush s (s .next)) (s .next + 1) in
+      let e : map entryOf (takenOf node hs) ≡ k .entries = taken-entries node mostBatch hs ∙ hs-entries in
+      record {
+        ring = k .ring;
+        entries = map entryOf (takenOf node hs);
+        reading = k .reading ∙ ap (readable (k .ring)) (sym e);
+        fit = fit-of t (takenOf node hs) (fit-start node (s .next) (s .pins) hs (rw w at hs-fit) l (sym (those-some node hs) ∙ b));
       }
 
   -- a write: stored behind the entries, listed behind the held

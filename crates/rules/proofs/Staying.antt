@@ -22,6 +22,7 @@ use Rattle.ring.specs.Ring.{emptyRing}
 use Rattle.ring.proofs.Laws.{readable-facts, made-reads}
 use Rattle.state.specs.declared.State.{State}
 use Rattle.state.specs.declared.Pin.{Pin}
+use Rattle.state.specs.declared.Held.{Held}
 use Rattle.state.specs.Lists.{any, all, pairs, noPin, mostPins, listed, holding, entryOf, comesBack, phaseFits, reopened}
 use Rattle.state.specs.Pins.{isDue, pinPlace}
 use Rattle.state.proofs.Bools.{both-intro, both-no, both-fails, not-fails}
@@ -29,14 +30,15 @@ use Rattle.state.proofs.Finding.{place-there}
 use Rattle.judge.specs.Fits.{fits, nextFits, pinsDiffer, pinsFit, pairFits, isInFlight, flightFits, headStays}
 use Rattle.judge.proofs.Fitting.{follows}
 use Rattle.judge.proofs.Rules.{IsFit, fits-true}
-use Rattle.rules.specs.Call.{Call, Kind, makes, reopens, writes, pins, unpins, asksEnd, reports, takesTicket, asksTicket, asksTurn, isOne, makeRing, reopenRing, ringOf}
-use Rattle.rules.specs.Refusals.{applies, order, first, refusalOf}
-use Rattle.rules.specs.Outcome.{reportDone, doneBy, outcome}
+use Rattle.rules.specs.Call.{Call, Kind, makes, reopens, writes, pins, unpins, asksEnd, reports, starts, fills, takesTicket, asksTicket, asksTurn, isOne, makeRing, reopenRing, ringOf}
+use Rattle.rules.specs.Refusals.{needsNumber, applies, order, first, refusalOf}
+use Rattle.rules.specs.Outcome.{reportDone, startDone, doneBy, outcome}
+use Rattle.rules.specs.Flush.{hasBatch}
 use Rattle.rules.proofs.Judging.{Judges}
 use Rattle.rules.proofs.Order.{refused-when}
 use Rattle.rules.proofs.Owning.{next-facts, Writable, pick-false}
 use Rattle.rules.proofs.Fit.{HeldFit, fit-of}
-use Rattle.rules.proofs.Standing.{Real, Stands, stands-ticket, stands-pin, stands-unpin, stands-good, stands-bad, stands-write}
+use Rattle.rules.proofs.Standing.{Real, Stands, stands-ticket, stands-pin, stands-unpin, stands-good, stands-bad, stands-start, stands-write}
 
 -- ---- rows of a call that isn't refused
 
@@ -58,7 +60,7 @@ module _ (c : Call) (r : List ℕ) (s : State) (k : Stands r s) where
     unfolding refusalOf
     free i h = first-none (applies c r s) Unreadable order i o h
 
-    numbered : isOne c (writes ∷ pins ∷ takesTicket ∷ []) ≡ true → s .next + 1 ≤ numberLimit
+    numbered : needsNumber c (readingOf r) s ≡ true → s .next + 1 ≤ numberLimit
     numbered y =
         let n = eqb-false (s .next) numberLimit (both-fails _ _ (free 9 (omega arith)) y) in
         let b = next-facts (s .next) (s .flush) (k .fit .next) .1 in
@@ -73,7 +75,7 @@ module _ (c : Call) (r : List ℕ) (s : State) (k : Stands r s) where
           named = eqb-false (c .node) 0 (both-fails _ _ (free 2 (omega arith)) (rw e));
           some = omega (arith, n);
           most = ltb-false largest (length (c .bytes)) (l .1);
-          end = ltb-false fileEnd (c .offset + length (c .bytes)) (both-fails _ _ (free 4 (omega arith)) (rw e));
+          end = ltb-false fileEnd (c .offset + length (c .bytes)) (rw e at (both-fails _ _ (free 4 (omega arith)) (rw e)));
           next = eqb-false (s .next) numberLimit (both-fails _ _ (free 9 (omega arith)) (rw e));
           room = rw g at (ltb-false (ringOf (readingOf r) .n - 1 - ringOf (readingOf r) .used) (slotsOf (length (c .bytes))) (both-fails _ _ (free 10 (omega arith)) (rw e)));
         }
@@ -88,7 +90,7 @@ module _ (c : Call) (r : List ℕ) (s : State) (k : Stands r s) where
         let p = place-there (λ p. eqb (p .number) 0) noPin (s .pins) f in
         stands-pin r s k (numbered (rw e)) (pinPlace 0 (s .pins)) (p .0) (eqb-true _ _ (p .1)) _ refl
     done-stands unpins e j v =
-        let f = both-right (ltb 0 (c .number)) _ (not-fails _ (both-fails _ _ (free 7 (omega arith)) (rw e))) in
+        let f = rw e at (both-right (ltb 0 (c .number)) _ (not-fails _ (both-fails _ _ (free 7 (omega arith)) (rw e)))) in
         stands-unpin r s k (pinPlace (c .number) (s .pins)) (place-there (λ p. eqb (p .number) (c .number)) noPin (s .pins) f .0)
     done-stands asksEnd e j v = k
     done-stands reports e j v = went (c .good)
@@ -96,6 +98,14 @@ module _ (c : Call) (r : List ℕ) (s : State) (k : Stands r s) where
         went : (b : Bool) → Stands (reportDone b (k .ring) (holding (k .entries) (listed s)) r s .ring) (reportDone b (k .ring) (holding (k .entries) (listed s)) r s .state)
         went true = stands-good r s k
         went false = stands-bad r s k
+    done-stands starts e j v = went (hasBatch (c .node) hs) refl
+      where
+        hs : List Held
+        hs = holding (k .entries) (listed s)
+        went : (b : Bool) → hasBatch (c .node) hs ≡ b → Stands (startDone b (c .node) (k .ring) hs r s (c .buffer) .ring) (startDone b (c .node) (k .ring) hs r s (c .buffer) .state)
+        went false b = k
+        went true b = stands-start r s k (c .node) (ltb-false 0 (s .flush) (both-fails _ _ (free 5 (omega arith)) (rw e))) (numbered (rw (e, k .reading) b)) b
+    done-stands fills e j v = k
     done-stands takesTicket e j v = stands-ticket r s k (numbered (rw e))
     done-stands asksTicket e j v = k
     done-stands asksTurn e j v = k

@@ -18,6 +18,8 @@ pub data Kind : Type 0 where
   unpins : Kind
   asksEnd : Kind
   reports : Kind
+  starts : Kind
+  fills : Kind
   takesTicket : Kind
   asksTicket : Kind
   asksTurn : Kind
@@ -32,9 +34,13 @@ pub record Call : Type 0 where
   pub number : ℕ
   pub bytes : List ℕ
   pub good : Bool
+  -- lent by the host, with the count that it fetched from shore
+  pub buffer : List ℕ
+  pub fetched : ℕ
 
 abbrev plain : Kind → ℕ → ℕ → Call
-plain kind node number = record { kind = kind; node = node; handle = 0; offset = 0; number = number; bytes = []; good = false }
+plain kind node number =
+    record { kind = kind; node = node; handle = 0; offset = 0; number = number; bytes = []; good = false; buffer = []; fetched = 0 }
 
 abbrev pub makeRing : Call
 makeRing = plain makes 0 0
@@ -43,7 +49,8 @@ abbrev pub reopenRing : Call
 reopenRing = plain reopens 0 0
 
 abbrev pub write : (node handle offset : ℕ) → (bytes : List ℕ) → Call
-write node handle offset bytes = record { kind = writes; node = node; handle = handle; offset = offset; number = 0; bytes = bytes; good = false }
+write node handle offset bytes =
+    record { kind = writes; node = node; handle = handle; offset = offset; number = 0; bytes = bytes; good = false; buffer = []; fetched = 0 }
 
 abbrev pub pin : (node : ℕ) → Call
 pin node = plain pins node 0
@@ -55,7 +62,16 @@ abbrev pub askEnd : (node : ℕ) → Call
 askEnd node = plain asksEnd node 0
 
 abbrev pub report : (number : ℕ) → (good : Bool) → Call
-report number good = record { kind = reports; node = 0; handle = 0; offset = 0; number = number; bytes = []; good = good }
+report number good =
+    record { kind = reports; node = 0; handle = 0; offset = 0; number = number; bytes = []; good = good; buffer = []; fetched = 0 }
+
+abbrev pub startFlush : (node : ℕ) → (buffer : List ℕ) → Call
+startFlush node buffer =
+    record { kind = starts; node = node; handle = 0; offset = 0; number = 0; bytes = []; good = false; buffer = buffer; fetched = 0 }
+
+abbrev pub fillRead : (pin node offset fetched : ℕ) → (buffer : List ℕ) → Call
+fillRead pin node offset fetched buffer =
+    record { kind = fills; node = node; handle = 0; offset = offset; number = pin; bytes = []; good = false; buffer = buffer; fetched = fetched }
 
 abbrev pub takeTicket : Call
 takeTicket = plain takesTicket 0 0
@@ -75,9 +91,11 @@ tag pins = 3
 tag unpins = 4
 tag asksEnd = 5
 tag reports = 6
-tag takesTicket = 7
-tag asksTicket = 8
-tag asksTurn = 9
+tag starts = 7
+tag fills = 8
+tag takesTicket = 9
+tag asksTicket = 10
+tag asksTurn = 11
 
 -- whether a call is of one of the kinds
 abbrev pub isOne : Call → List Kind → Bool

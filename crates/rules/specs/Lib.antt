@@ -1,4 +1,6 @@
 pub mod Call
+pub mod Flush
+pub mod Fill
 pub mod Refusals
 pub mod Outcome
 pub mod Known

@@ -8,10 +8,11 @@ use Rattle.layout.specs.Sizes.{fileEnd}
 use Rattle.walk.specs.declared.Entry.{Entry}
 use Rattle.state.specs.Lists.{filled}
 use Rattle.state.proofs.Loops.{fill-more}
+use Rattle.state.specs.Batch.{mostBatch}
 use Rattle.sheet.specs.declared.Piece.{Piece}
 use Rattle.sheet.specs.declared.Pieces.{Pieces}
 use Rattle.sheet.specs.Sheet.{piece}
-use Rattle.sheet.specs.Places.{mostBatch, keyBy, grow, inOrder, total, noPiece, piecesFrom, Batch, First, Ends}
+use Rattle.sheet.specs.Places.{keyBy, grow, inOrder, total, noPiece, piecesFrom, Batch, First, Ends}
 use Rattle.sheet.proofs.Growing.{At, turn, grown, first-none, at-first, at-next}
 use Rattle.sheet.proofs.Few.{few-pieces}
 

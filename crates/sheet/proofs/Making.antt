@@ -12,12 +12,13 @@ use Rattle.layout.specs.Bytes.{bytes4}
 use Rattle.walk.specs.declared.Entry.{Entry}
 use Rattle.walk.specs.Walk.{writeOf}
 use Rattle.state.specs.Lists.{pick}
+use Rattle.state.specs.Batch.{mostBatch}
 use Rattle.sheet.specs.declared.Piece.{Piece}
 use Rattle.sheet.specs.declared.Pieces.{Pieces}
 use Rattle.sheet.specs.declared.Made.{Made}
 use Rattle.sheet.specs.declared.Made.the-variants.{Sheet, Short}
 use Rattle.sheet.specs.Sheet.{listOf, dataBy, sheetBy, sheetOf}
-use Rattle.sheet.specs.Places.{mostBatch, keyBy, byteBy, grow, inOrder, total, piecesFrom, laidAt, laidIf, madeFrom, Batch, AllCovered}
+use Rattle.sheet.specs.Places.{keyBy, byteBy, grow, inOrder, total, piecesFrom, laidAt, laidIf, madeFrom, Batch, AllCovered}
 use Rattle.sheet.proofs.Few.{few-pieces}
 use Rattle.sheet.proofs.Collecting.{order-length}
 use Rattle.sheet.proofs.Covered.{grow-total}

@@ -10,7 +10,8 @@ use Rattle.layout.specs.Sizes.{fileEnd, largest}
 use Rattle.walk.specs.declared.Entry.{Entry}
 use Rattle.walk.specs.Entry.{dataOf}
 use Rattle.walk.specs.Walk.{noEntry}
-use Rattle.state.specs.Lists.{pick, all, filled}
+use Rattle.state.specs.Lists.{pick, filled}
+use Rattle.state.specs.Batch.{mostBatch}
 use Rattle.shore.specs.Cover.{spans}
 use Rattle.sheet.specs.declared.Piece.{Piece}
 use Rattle.sheet.specs.declared.Pieces.{Pieces}
@@ -18,10 +19,6 @@ use Rattle.sheet.specs.declared.Found.{Found}
 use Rattle.sheet.specs.declared.Made.{Made}
 use Rattle.sheet.specs.declared.Made.the-variants.{Sheet, Short}
 use Rattle.sheet.specs.Sheet.{pieceSize, piece, gather}
-
--- "oldest 32"
-abbrev pub mostBatch : ℕ
-mostBatch = 32
 
 abbrev pub overlies : ℕ → Entry → Bool
 overlies p e = spans (e .offset) (e .length) p

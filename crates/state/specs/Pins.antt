@@ -84,3 +84,7 @@ pinPlace number ps = placeOf (λ p. eqb (p .number) number) ps
 -- some record has that number
 abbrev pub hasPin : ℕ → List Pin → Bool
 hasPin number ps = any (λ p. eqb (p .number) number) ps
+
+-- and is for that very node
+abbrev pub hasPinFor : ℕ → ℕ → List Pin → Bool
+hasPinFor number node ps = any (λ p. both (eqb (p .number) number) (eqb (p .node) node)) ps
