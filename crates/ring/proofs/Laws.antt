@@ -11,7 +11,8 @@ use Rattle.layout.specs.Bytes.{round, Sized, put}
 use Rattle.layout.specs.declared.Ring.{Ring}
 use Rattle.walk.specs.declared.Entry.{Entry}
 use Rattle.walk.specs.Walk.{readable, readingOf, written, writeOf, writesBy, writesOf, slotsUsed, Rising}
-use Rattle.walk.proofs.Readings.{reading-sound, reading-header, reading-true, used-slots, entries-few, entries-rise}
+use Rattle.walk.proofs.Chain.{AllInRing}
+use Rattle.walk.proofs.Readings.{reading-sound, reading-header, reading-true, used-slots, entries-few, entries-rise, entries-inside}
 use Rattle.store.specs.Store.{slotsFor, made, stored, headMoved}
 use Rattle.ring.specs.Ring.{emptyRing, slotAfter, grown, shrunk, Storable, Alike}
 use Rattle.ring.proofs.Making.{made-readable}
@@ -29,6 +30,7 @@ pub record Facts (r : List ℕ) (g : Ring) (es : List Entry) : Type 0 where
   pub few : length es ≤ mostEntries
   -- every entry is valid, and the numbers rise from 1 or more
   pub rising : Rising 0 es
+  pub inside : AllInRing (g .n) es
   pub writes : writesOf r ≡ some (map (writeOf (round r (g .n))) es)
 
 module _ (r : List ℕ) (g : Ring) (es : List Entry) (q : readingOf r ≡ readable g es) where
@@ -42,6 +44,7 @@ module _ (r : List ℕ) (g : Ring) (es : List Entry) (q : readingOf r ≡ readab
         free = k .headed .used;
         few = entries-few k;
         rising = entries-rise k;
+        inside = entries-inside k;
         writes = ap (writesBy r) q;
       }
 

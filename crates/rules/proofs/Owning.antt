@@ -2,7 +2,7 @@
 use Prim.Native.Nat.{ℕ, _+_, _-_, _≤_, _<_}
 use mathlib.Core.Path.{_≡_, refl, sym, _∙_, ap}
 use mathlib.Core.Bool.{Bool, true, false, not}
-use mathlib.Core.List.{List, [], map}
+use mathlib.Core.List.{List, [], _∷_, map}
 use mathlib.Core.Option.{Option, none, some}
 use native.Mathlib.Omega.{arith}
 use borrow.Author.Tests.{leb-true, ltb-true, ltb-false, eqb-false}
@@ -15,11 +15,14 @@ use Rattle.layout.specs.Bytes.{both, Sized}
 use Rattle.layout.specs.declared.Ring.{Ring}
 use Rattle.layout.proofs.Tests.{never, both-left, both-right}
 use Rattle.walk.specs.Walk.{Reading, readable, slotsUsed}
-use Rattle.walk.proofs.Chain.{used-length}
+use Rattle.walk.specs.declared.Entry.{Entry}
+use Rattle.walk.proofs.Chain.{InRing, AllInRing, used-length}
 use Rattle.ring.proofs.Laws.{readable-facts}
 use Rattle.state.specs.declared.State.{State}
 use Rattle.state.specs.declared.Held.{Held}
-use Rattle.state.specs.Lists.{pick, all, listed, entryOf, phaseFits, RisingTo}
+use Rattle.state.specs.declared.Listed.{Listed}
+use Rattle.state.proofs.Finding.{Each}
+use Rattle.state.specs.Lists.{pick, all, listed, holding, entryOf, phaseFits, RisingTo}
 use Rattle.state.specs.Pins.{hasPin, hasPinFor}
 use Rattle.judge.specs.Fits.{nextFits}
 use Rattle.judge.proofs.Fitting.{list-length, holding-length, holding-entries, holding-rising, holding-below, holding-phases}
@@ -145,6 +148,13 @@ pub record Sure (r : List ℕ) (s : State) (g : Ring) (count : ℕ) (hs : List H
   pub below : RisingTo (s .next) 0 hs
   pub limit : RisingTo numberLimit 0 hs
   pub phases : all phaseFits hs ≡ true
+  -- entries are valid and start in the ring's slots
+  pub inside : Each (λ h. InRing (g .n) (h .entry)) hs
+
+holding-inside : (n : ℕ) (es : List Entry) (ws : List Listed) → AllInRing n es → Each (λ h. InRing n (h .entry)) (holding es ws)
+holding-inside n [] ws o = tt
+holding-inside n (e ∷ es) [] o = tt
+holding-inside n (e ∷ es) (w ∷ ws) o = (o .0, holding-inside n es ws (o .1))
 
 pub sure : (r : List ℕ) (s : State) (g : Ring) (count : ℕ) (held : List Held) → Known r s g count held → Sure r s g count (take count held)
 sure r s g count held k =
@@ -171,4 +181,5 @@ sure r s g count held k =
       below = holding-below (s .next) es (listed s) 0 (f .rising) (o .list);
       limit = holding-rising es (listed s) 0 (f .rising);
       phases = holding-phases (s .next) es (listed s) (o .list);
+      inside = holding-inside (g .n) es (listed s) (f .inside);
     })

@@ -1,11 +1,11 @@
 -- A good walk as a chain of entries, one behind the other: what the laws of storing and of moving the head go by.
-use Prim.Native.Nat.{ℕ, _+_, _-_, _≤_, _<_}
+use Prim.Native.Nat.{ℕ, _+_, _-_, _≤_, _<_, _%_}
 use mathlib.Core.Path.{_≡_, refl, sym, ap, _∙_}
 use mathlib.Core.Logic.{⊎-elim}
 use mathlib.Core.List.{List, [], _∷_, _++_}
 use mathlib.Core.Option.{Option, none, some}
 use native.Mathlib.Omega.{arith}
-use native.Mathlib.Nat.{add-zero, zero-add, sub-zero}
+use native.Mathlib.Nat.{add-zero, zero-add, sub-zero, mod-lt}
 use lib.ListN.{length}
 use Rattle.layout.specs.Sizes.{slotsOf}
 use Rattle.layout.proofs.Tests.{lt-or-le, never}
@@ -16,7 +16,7 @@ use Rattle.walk.specs.declared.Step.{Step}
 use Rattle.walk.specs.declared.Step.the-variants.{Found, Nothing}
 use Rattle.walk.specs.Entry.{entryAt}
 use Rattle.walk.specs.Walk.{stepOf, stepAt, pass, more, onFound, walk, slotsUsed, lastOf, Rising}
-use Rattle.walk.proofs.Rules.{IsEntry, valid-true, step-sound, step-found}
+use Rattle.walk.proofs.Rules.{Valid, IsEntry, valid-true, step-sound, step-found}
 use Rattle.walk.proofs.Walks.{walk-end, walk-step, cursor}
 
 pub data Chain (f : ℕ → ℕ) (n : ℕ) : ℕ → ℕ → ℕ → List Entry → Type 0 where
@@ -79,6 +79,22 @@ chain-used (link {e = e} at is c) = let u = chain-used c in omega (arith, is .fi
 pub chain-rising : {f : ℕ → ℕ} {n s left last : ℕ} {es : List Entry} → Chain f n s left last es → Rising last es
 chain-rising done = tt
 chain-rising (link at is c) = (is .rising, valid-true _ (is .valid), chain-rising c)
+
+-- every entry is valid and starts in one of the slots
+pub record InRing (n : ℕ) (e : Entry) : Type 0 where
+  pub slot : e .slot < n
+  pub valid : Valid e
+
+abbrev pub AllInRing : ℕ → List Entry → Type 0
+AllInRing n [] = Unit {0}
+AllInRing n (e ∷ es) = InRing n e × AllInRing n es
+
+pub chain-inside : {f : ℕ → ℕ} {n s left last : ℕ} {es : List Entry} → 0 < n → Chain f n s left last es → AllInRing n es
+chain-inside z done = tt
+chain-inside {f} {n} {s} z (link {e = e} at is c) =
+    let t : s % n ≡ e .slot = ap (λ e. e .slot) at in
+    let m : s % n < n = mod-lt s z in
+    (record { slot = omega arith; valid = is .valid }, chain-inside z c)
 
 -- an entry takes a slot at least
 pub used-length : (es : List Entry) → length es ≤ slotsUsed es

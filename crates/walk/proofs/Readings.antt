@@ -22,7 +22,7 @@ use Rattle.walk.specs.Entry.{dataOf}
 use Rattle.walk.specs.Walk.{walk, start, Reading, readable, unreadable, reads, readingBy, readingOf, answerOf, slotsUsed, Rising, writeOf}
 use Rattle.walk.proofs.Rules.{IsHeader, Headed, header-use, header-good, header-headed}
 use Rattle.walk.proofs.Walks.{Slots, slots-rest}
-use Rattle.walk.proofs.Chain.{Chain, done, link, walk-of, chain-of, chain-used, chain-rising, used-length}
+use Rattle.walk.proofs.Chain.{Chain, done, link, walk-of, chain-of, chain-used, chain-rising, used-length, AllInRing, chain-inside}
 
 -- what there is to know of a readable ring
 pub record Readable (r : List ℕ) (g : Ring) (es : List Entry) : Type 0 where
@@ -117,6 +117,9 @@ module _ {r : List ℕ} {g : Ring} {es : List Entry} (k : Readable r g es) where
 
   pub entries-rise : Rising 0 es
   entries-rise = chain-rising (k .chain)
+
+  pub entries-inside : AllInRing (g .n) es
+  entries-inside = let l = k .headed .sized .low in chain-inside (omega arith) (k .chain)
 
 -- ---- an entry's bytes in two views
 
