@@ -102,6 +102,7 @@ module _ (c : Call) (r : List ℕ) (s : State) (k : Stands r s) where
       where
         hs : List Held
         hs = holding (k .entries) (listed s)
+
         went : (b : Bool) → hasBatch (c .node) hs ≡ b → Stands (startDone b (c .node) (k .ring) hs r s (c .buffer) .ring) (startDone b (c .node) (k .ring) hs r s (c .buffer) .state)
         went false b = k
         went true b = stands-start r s k (c .node) (ltb-false 0 (s .flush) (both-fails _ _ (free 5 (omega arith)) (rw e))) (numbered (rw (e, k .reading) b)) b

@@ -1,0 +1,2 @@
+pub mod Batching
+pub mod Starting
