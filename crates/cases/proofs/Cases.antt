@@ -8,10 +8,17 @@ use Rattle.state.specs.Moves.{moveOf, reported}
 use Rattle.state.specs.Pins.{markOf, keeps, isDue, leaving, staying}
 use Rattle.walk.specs.Entry.{validFields}
 use Rattle.judge.specs.Fits.{listedFits, listFits, nextFits, pinsDiffer, pinsFit, phasesFit, nodesFit, pairFits, flightFits, headStays, fits}
+use Rattle.state.specs.Asks.{laterEnd}
+use Rattle.layout.specs.Bytes.{bytesAt}
+use Rattle.state.specs.Batch.{batchOf, takeFirst}
+use Rattle.sheet.specs.Places.{laidAt}
+use Rattle.shore.specs.Cover.{spans, byteOver}
+use Rattle.sheet.specs.Sheet.{keyOf, goesOn, gather, cutIn, cutAll, piecesOf, listOf, dataBy, sheetBy, sheetOf}
+use Rattle.rules.specs.Fill.{filledFrom}
 use Rattle.rules.specs.Refusals.{refusalOf}
 use Rattle.rules.specs.Outcome.{outcome}
 use Rattle.cases.specs.Cases.{Hold, starred}
 
 pub starred-hold : Hold starred
-unfolding round both isRingLength zerosAt bytes2 bytes4 bytes8 put isHeader pickHeader headerOf walkIn walk readingOf made nameBytes rangeBytes headBytes entryBytes stored moveOf reported markOf keeps isDue leaving staying validFields isEntry pickStep headMoved listedFits listFits nextFits pinsDiffer pinsFit phasesFit nodesFit pairFits flightFits headStays fits refusalOf outcome number2 number4 number8
+unfolding round both isRingLength zerosAt bytes2 bytes4 bytes8 put isHeader pickHeader headerOf walkIn walk readingOf made nameBytes rangeBytes headBytes entryBytes stored moveOf reported markOf keeps isDue leaving staying validFields isEntry pickStep headMoved listedFits listFits nextFits pinsDiffer pinsFit phasesFit nodesFit pairFits flightFits headStays fits refusalOf outcome number2 number4 number8 laterEnd bytesAt spans byteOver keyOf goesOn gather cutIn cutAll piecesOf listOf dataBy sheetBy sheetOf filledFrom batchOf takeFirst laidAt
 starred-hold = refl
