@@ -7,20 +7,19 @@ use native.Mathlib.Omega.{arith}
 use native.Mathlib.Numerals.{add-one}
 use borrow.Author.Tests.{eqb-true, ltb-true, ltb-false}
 use lib.ListN.{length, take, drop, getD, set, length-append, length-map}
-use lib.Seq.{slice, slice-cons, slice-empty, drop-cons, getD-at, set-at, take-all, length-take-le}
+use lib.Seq.{slice, slice-cons, slice-empty, drop-cons, getD-at, set-at}
 use lib.Dec.{eqb, ltb}
 use Rattle.layout.specs.Bytes.{both}
 use Rattle.layout.proofs.Tests.{both-left, both-right}
 use Rattle.walk.specs.declared.Entry.{Entry}
 use Rattle.walk.specs.Walk.{noEntry}
 use Rattle.state.specs.declared.Held.{Held}
-use Rattle.state.specs.Lists.{pick, filled, unflushed, noHeld, entryOf}
+use Rattle.state.specs.Lists.{filled, unflushed, noHeld, entryOf}
 use Rattle.state.specs.Moves.{taken, moveOf, movedBy}
 use Rattle.state.specs.Pins.{those}
 use Rattle.state.specs.Batch.{mostBatch, isWaiting, batchOf, takeFirst, takenOf}
 use Rattle.state.proofs.Bools.{both-fails}
 use Rattle.state.proofs.Loops.{fill-more}
-use Rattle.flush.specs.declared.Batch.{Batch}
 use Rattle.flush.specs.Answers.{batchFrom}
 
 -- a write joins a batch of so many

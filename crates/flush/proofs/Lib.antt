@@ -1,2 +1,3 @@
 pub mod Batching
 pub mod Starting
+pub mod Unique

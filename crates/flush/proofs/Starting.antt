@@ -3,13 +3,12 @@ use Prim.Native.Nat.{ℕ, zero, suc, _+_, _-_, _≤_, _<_}
 use mathlib.Core.Path.{_≡_, refl, sym, ap, _∙_}
 use mathlib.Core.Bool.{Bool, true, false}
 use mathlib.Core.List.{List, [], _∷_, _++_, map}
-use mathlib.Core.Option.{Option, none, some}
+use mathlib.Core.Option.{none, some}
 use native.Mathlib.Omega.{arith}
 use borrow.Author.Tests.{eq-eqb, ne-eqb, lt-ltb, le-ltb}
 use lib.ListN.{length, take, drop, getD, length-map, length-append, length-replicate}
 use lib.Seq.{take-at}
 use lib.Dec.{eqb, ltb}
-use Rattle.reason.specs.declared.Reason.{Reason}
 use Rattle.reason.specs.declared.Reason.the-variants.{NodeZero, NoNumber, FlushUnderWay, BadBuffer}
 use Rattle.layout.specs.Sizes.{numberLimit}
 use Rattle.layout.specs.Bytes.{both, round}

@@ -5,3 +5,4 @@ pub mod Fit
 pub mod Taking
 pub mod Standing
 pub mod Staying
+pub mod Saying

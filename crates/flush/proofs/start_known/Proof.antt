@@ -1,3 +1,4 @@
+-- `flush::start_known` meets its contract: the laws of `Starting`, one for each way out.
 use denote.Ref.{now}
 use Rattle.rules.proofs.Owning.{sure}
 use Rattle.flush.proofs.Starting.{batch-laid, start-zero, start-under, start-nothing, start-number, start-short, start-done}
@@ -5,84 +6,63 @@ use native.Mathlib.Omega.{arith}
 use borrow.Author.Needs.{needs}
 use Rattle.flush.proofs.start_known.Statement.{statement}
 use Rattle.flush.proofs.start_known.Tie as tie
-use Rattle.flush.proofs.start_known.Reads as reads
-use Rattle.flush.proofs.start_known.Lts as lts
-use Rattle.flush.proofs.not_begun.Reads as not-begun-reads
-use Rattle.flush.proofs.take_batch.Reads as take-batch-reads
-use Rattle.flush.proofs.under_way.Reads as under-way-reads
-use Rattle.sheet.proofs.make_sheet.Reads as make-sheet-reads
 
--- src/lib.rt:145:9
 not-begun-requires : tie.Need-not-begun-requires
 not-begun-requires c κs = search needs
 
--- src/lib.rt:145:9
 returns : tie.Need-returns
 returns c =
     let a = c .before .before .before .before .args in
     rw (c .not-begun .ensures .0, c .not-begun .ensures .1) (start-zero (now (a .bytes)) (a .s) _ _ _ (c .before .before .before .before .pre) (a .node) (now (a .buffer)) (c .before .if1 .taken))
 
--- src/lib.rt:148:9
 not-begun-requires-2 : tie.Need-not-begun-requires-2
 not-begun-requires-2 c κs = search needs
 
--- src/lib.rt:148:9
 returns-2 : tie.Need-returns-2
 returns-2 c =
     let a = c .before .before .before .before .before .before .args in
     rw (c .not-begun2 .ensures .0, c .not-begun2 .ensures .1) (start-under (now (a .bytes)) (a .s) _ _ _ (c .before .before .before .before .before .before .pre) (a .node) (now (a .buffer)) (c .before .before .before .if1 .left) (c .before .if2 .taken))
 
--- src/lib.rt:150:9
 take-batch-requires : tie.Need-take-batch-requires
 take-batch-requires c κs =
     let a = c .before .before .before .before .before .args in
     sure (now (a .bytes)) (a .s) _ _ _ (c .before .before .before .before .before .pre) .few
 
--- src/lib.rt:153:9
 returns-3 : tie.Need-returns-3
 returns-3 c =
     let a = c .before .before .before .before .before .before .before .args in
     start-nothing (now (a .bytes)) (a .s) _ _ _ (c .before .before .before .before .before .before .before .pre) (a .node) (now (a .buffer)) (c .before .before .before .before .if1 .left) (c .before .before .if2 .left) _ (c .before .take-batch .ensures) (c .if3 .taken)
 
--- src/lib.rt:160:9
 not-begun-requires-3 : tie.Need-not-begun-requires-3
 not-begun-requires-3 c κs = search needs
 
--- src/lib.rt:160:9
 returns-4 : tie.Need-returns-4
 returns-4 c =
     let a = c .before .before .before .before .before .before .before .before .before .args in
     rw (c .not-begun3 .ensures .0, c .not-begun3 .ensures .1) (start-number (now (a .bytes)) (a .s) _ _ _ (c .before .before .before .before .before .before .before .before .before .pre) (a .node) (now (a .buffer)) (c .before .before .before .before .before .before .if1 .left) (c .before .before .before .before .if2 .left) _ (c .before .before .before .take-batch .ensures) (c .before .before .if3 .left) (c .before .if4 .taken))
 
--- src/lib.rt:163:9
 make-sheet-requires : tie.Need-make-sheet-requires
 make-sheet-requires c κs =
     let a = c .before .before .before .before .before .before .before .before .before .before .args in
     (sure (now (a .bytes)) (a .s) _ _ _ (c .before .before .before .before .before .before .before .before .before .before .pre) .sized, batch-laid (now (a .bytes)) (a .s) _ _ _ (c .before .before .before .before .before .before .before .before .before .before .pre) (a .node) _ (c .before .before .before .before .take-batch .ensures))
 
--- src/lib.rt:164:21
 enum-known-made : tie.Need-enum-known-made
 enum-known-made c = search needs
 
--- src/lib.rt:165:29
 enum-told : tie.Need-enum-told
 enum-told c = search needs
 
--- src/lib.rt:165:9
 not-begun-requires-4 : tie.Need-not-begun-requires-4
 not-begun-requires-4 c κs = search needs
 
--- src/lib.rt:165:9
 same-length : tie.Need-same-length
 same-length c = search needs
 
--- src/lib.rt:165:9
 returns-5 : tie.Need-returns-5
 returns-5 c =
     let a = c .before .before .before .before .before .before .before .before .before .before .before .before .before .before .before .before .args in
     rw (c .not-begun4 .ensures .0, c .not-begun4 .ensures .1) (start-short (now (a .bytes)) (a .s) _ _ _ (c .before .before .before .before .before .before .before .before .before .before .before .before .before .before .before .before .pre) (a .node) (now (a .buffer)) (c .before .before .before .before .before .before .before .before .before .before .before .before .before .if1 .left) (c .before .before .before .before .before .before .before .before .before .before .before .if2 .left) _ (c .before .before .before .before .before .before .before .before .before .before .take-batch .ensures) (c .before .before .before .before .before .before .before .before .before .if3 .left) (c .before .before .before .before .before .before .before .before .if4 .left) _ _ (c .before .before .before .before .before .make-sheet .ensures .0) (c .before .before .before .before .before .make-sheet .ensures .1) (c .before .enum-told .given .1))
 
--- src/lib.rt:168:9
 under-way-requires : tie.Need-under-way-requires
 under-way-requires c κs =
     let a = c .before .before .before .before .before .before .before .before .before .before .before .before .before .before .before .before .before .args in
@@ -91,11 +71,9 @@ under-way-requires c κs =
     let l = c .before .before .before .before .before .before .before .before .before .if4 .left in
     (k .few, omega (arith, l))
 
--- src/lib.rt:132:1
 same-length-2 : tie.Need-same-length-2
 same-length-2 c = search needs
 
--- src/lib.rt:132:1
 returns-6 : tie.Need-returns-6
 returns-6 c =
     let a = c .before .before .before .before .before .before .before .before .before .before .before .before .before .before .before .before .before .before .args in

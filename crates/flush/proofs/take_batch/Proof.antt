@@ -1,19 +1,12 @@
-use Rattle.flush.proofs.Batching.{taken-one, passed-one}
+-- `flush::take_batch` meets its contract: `Taking`: what is taken so far, and what the rest would still give.
+use Rattle.flush.proofs.Batching.{taken-one, passed-one, Taking, joinsBy, taking-start, taking-read, taking-room, taking-end}
 use Prim.Native.Nat.{_-_, _<_}
-use mathlib.Core.Path.{_≡_, refl, sym, ap, _∙_, subst}
+use mathlib.Core.Path.{sym, ap, _∙_}
 use mathlib.Core.Logic.{⊎-elim}
-use lib.ListN.{set, getD}
-use Rattle.state.specs.Lists.{noHeld}
-use Rattle.flush.proofs.Batching.{Taking, joinsBy, taking-start, taking-read, taking-room, taking-yes, taking-no, taking-end}
 use native.Mathlib.Omega.{arith}
 use borrow.Author.Needs.{needs}
 use Rattle.flush.proofs.take_batch.Statement.{statement}
 use Rattle.flush.proofs.take_batch.Tie as tie
-use Rattle.flush.proofs.take_batch.Reads as reads
-use Rattle.flush.proofs.take_batch.Lts as lts
-use Rattle.flush.proofs.joins.Reads as joins-reads
-use Rattle.flush.proofs.no_entries.Reads as no-entries-reads
-use Rattle.state.proofs.move_of.Reads as move-of-reads
 
 abbrev Inv-loop : tie.InvT-loop
 Inv-loop count node out₀ entries₀ many₀ i₀ out entries many i = Taking node out₀ count out entries many i
@@ -24,63 +17,48 @@ abbrev μ-loop : tie.MeasureT-loop
 hits : (c : tie.After-entry Inv-loop μ-loop) → c .before .before .before .before .before .loop .many < 32
 hits c = taking-room _ _ _ _ _ _ _ (c .before .before .before .before .before .loop .inv) (c .before .before .before .before .loop-test .taken) (ap (joinsBy (c .before .before .before .before .before .before .before .args .node) (c .before .before .before .before .before .loop .many)) (sym (taking-read _ _ _ _ _ _ _ (c .before .before .before .before .before .loop .inv) (c .before .before .before .before .loop-test .taken))) ∙ sym (c .before .before .joins .ensures) ∙ c .before .if1 .taken)
 
--- src/lib.rt:86:23
 no-entries-requires : tie.Need-no-entries-requires Inv-loop μ-loop
 no-entries-requires c κs = search needs
 
--- src/lib.rt:89:5
 loop-holds : tie.Need-loop-holds Inv-loop μ-loop
 loop-holds c = taking-start _ _ _ _ (c .no-entries .ensures) (omega arith)
 
--- src/lib.rt:90:19
 mul-one : tie.Need-mul-one Inv-loop μ-loop
 mul-one c = omega arith
 
--- src/lib.rt:90:19
 array-copy-out-one : tie.Need-array-copy-out-one Inv-loop μ-loop
 array-copy-out-one c = omega arith
 
--- src/lib.rt:91:12
 joins-requires : tie.Need-joins-requires Inv-loop μ-loop
 joins-requires c κs = search needs
 
--- src/lib.rt:93:13
 mul-entries : tie.Need-mul-entries Inv-loop μ-loop
 mul-entries c = omega (arith, hits c)
 
--- src/lib.rt:93:13
 array-set-from-entries : tie.Need-array-set-from-entries Inv-loop μ-loop
 array-set-from-entries c = hits c
 
--- src/lib.rt:96:39
 cast-move-of : tie.Need-cast-move-of Inv-loop μ-loop
 cast-move-of c = search needs
 
--- src/lib.rt:96:24
 move-of-requires : tie.Need-move-of-requires Inv-loop μ-loop
 move-of-requires c κs = search needs
 
--- src/lib.rt:94:13
 mul-out : tie.Need-mul-out Inv-loop μ-loop
 mul-out c = omega arith
 
--- src/lib.rt:94:13
 array-set-from-out : tie.Need-array-set-from-out Inv-loop μ-loop
 array-set-from-out c = omega arith
 
--- src/lib.rt:98:13
 add-many : tie.Need-add-many Inv-loop μ-loop
 add-many c = omega (arith, hits (c .before))
 
--- src/lib.rt:100:9
 add-i : tie.Need-add-i Inv-loop μ-loop
 add-i c = omega arith
 
--- src/lib.rt:89:5
 loop-less : tie.Need-loop-less Inv-loop μ-loop
 loop-less c = omega arith
 
--- src/lib.rt:89:5
 loop-again : tie.Need-loop-again Inv-loop μ-loop
 loop-again c =
     let k = c .before .before .before .before .loop .inv in
@@ -88,7 +66,6 @@ loop-again c =
     let j = sym (c .before .joins .ensures) in
     ⊎-elim (λ w. taken-one _ _ _ _ _ _ _ k h _ _ _ _ (j ∙ w .0 .taken) (w .2 .ensures) (w .3) (w .4) (w .5)) (λ w. passed-one _ _ _ _ _ _ _ k h _ _ _ (j ∙ w .0 .left) (w .1) (w .2) (w .3)) (c .if1 .came)
 
--- src/lib.rt:81:1
 returns : tie.Need-returns Inv-loop μ-loop
 returns c = taking-end _ _ _ _ _ _ _ (c .before .loop .inv) (c .loop-test .left)
 
