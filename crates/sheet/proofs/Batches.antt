@@ -1,29 +1,27 @@
 -- From the code's entries to the batch's writes: the same newest write, key and byte at each place, and so the same sheet.
 use Prim.Native.Nat.{ℕ, zero, suc, _+_, _-_, _*_, _≤_, _<_}
 use native.Mathlib.Omega.{arith}
-use native.Mathlib.Numerals.{add-one}
 use mathlib.Core.Path.{_≡_, refl, sym, ap, _∙_}
 use mathlib.Core.Bool.{Bool, true, false}
 use mathlib.Core.List.{List, [], _∷_, _++_, map, map-append}
 use mathlib.Core.Option.{Option, none, some}
 use borrow.Author.Tests.{le-leb}
 use lib.ListN.{length, getD, take}
-use lib.Seq.{take-at, take-suc, length-take-le}
+use lib.Seq.{take-suc}
 use Rattle.layout.specs.Sizes.{slotSize, headSize, fileEnd}
-use Rattle.layout.specs.Bytes.{both, bytesAt, bytes4, Same}
+use Rattle.layout.specs.Bytes.{bytesAt, bytes4}
 use Rattle.layout.proofs.Views.{bytes-length, bytes-same}
 use Rattle.walk.specs.declared.Entry.{Entry}
 use Rattle.walk.specs.Entry.{dataOf}
 use Rattle.walk.specs.Walk.{noEntry, Write, writeOf}
 use Rattle.state.specs.Lists.{pick, all}
-use Rattle.state.proofs.Bools.{both-intro}
 use Rattle.state.proofs.Finding.{Each, each-at}
 use Rattle.state.proofs.Pairs.{all-snoc}
-use Rattle.shore.specs.Cover.{spans, covers, lastThat, newest, byteIn, byteOver}
+use Rattle.shore.specs.Cover.{spans, covers, newest, byteIn, byteOver}
 use Rattle.shore.proofs.Covering.{last-snoc}
 use Rattle.sheet.specs.declared.Piece.{Piece}
-use Rattle.sheet.specs.Sheet.{byteOf, keyIn, keyOf, endOf, gather, listOf, dataBy, sheetBy, sheetOf}
-use Rattle.sheet.specs.Places.{overlies, topOf, keyAt, keyBy, byteBy, isShort, grow, inOrder, noPiece, Batch, Covered, AllCovered}
+use Rattle.sheet.specs.Sheet.{byteOf, keyIn, keyOf, endOf, listOf, dataBy, sheetBy, sheetOf}
+use Rattle.sheet.specs.Places.{overlies, topOf, keyAt, keyBy, byteBy, isShort, grow, inOrder, noPiece, Batch, AllCovered}
 use Rattle.sheet.proofs.Growing.{gather-same, skip-to}
 use Rattle.sheet.proofs.Right.{AreThose, right}
 use Rattle.sheet.proofs.Few.{some-key}

@@ -1,28 +1,26 @@
 -- The pass that collects the pieces: what it has so far are the pieces of the places passed.
-use Prim.Native.Nat.{ℕ, suc, _+_, _-_, _≤_, _<_}
+use Prim.Native.Nat.{ℕ, _+_, _-_, _≤_, _<_}
 use native.Mathlib.Omega.{arith}
 use mathlib.Core.Path.{_≡_, refl, sym, ap, _∙_}
 use mathlib.Core.List.{List, [], _∷_, _++_}
 use lib.ListN.{length, replicate, set, length-append}
-use Rattle.layout.specs.Sizes.{fileEnd}
 use Rattle.walk.specs.declared.Entry.{Entry}
 use Rattle.state.specs.Lists.{filled}
 use Rattle.state.proofs.Loops.{fill-more}
 use Rattle.state.specs.Batch.{mostBatch}
 use Rattle.sheet.specs.declared.Piece.{Piece}
-use Rattle.sheet.specs.declared.Pieces.{Pieces}
 use Rattle.sheet.specs.Sheet.{piece}
 use Rattle.sheet.specs.Places.{keyBy, grow, inOrder, total, noPiece, piecesFrom, Batch, First, Ends}
 use Rattle.sheet.proofs.Growing.{At, turn, grown, first-none, at-first, at-next}
 use Rattle.sheet.proofs.Few.{few-pieces}
+use Rattle.sheet.proofs.Storing.{total-append}
 
 pub order-length : (qs : List Piece) → length (inOrder qs) ≡ length qs
 order-length [] = refl
 order-length (q ∷ qs) = length-append (inOrder qs) (q ∷ []) ∙ let e = order-length qs in omega arith
 
 total-snoc : (qs : List Piece) (q : Piece) → total (qs ++ q ∷ []) ≡ total qs + q .size
-total-snoc [] q = omega arith
-total-snoc (r ∷ qs) q = let e = total-snoc qs q in omega arith
+total-snoc qs q = total-append qs (q ∷ []) ∙ omega arith
 
 pub record Collected (c : ℕ → ℕ) (e : ℕ) (list : List Piece) (many size s : ℕ) : Type 0 where
   pub at : At c e s

@@ -2,23 +2,22 @@
 use Prim.Native.Nat.{ℕ, zero, suc, _+_, _-_, _≤_, _<_}
 use native.Mathlib.Nat.{eq-or-lt-of-le}
 use native.Mathlib.Omega.{arith}
-use mathlib.Core.Path.{_≡_, refl, sym, ap, _∙_, subst}
+use mathlib.Core.Path.{_≡_, refl, subst}
 use mathlib.Core.Bool.{Bool, true, false}
 use mathlib.Core.Logic.{⊎-elim}
 use mathlib.Core.List.{List, [], _∷_}
 use borrow.Author.Tests.{ltb-true, eq-eqb, lt-ltb, le-ltb}
 use lib.ListN.{length, getD}
-use lib.Dec.{ltb, eqb}
+use lib.Dec.{ltb}
 use Rattle.layout.specs.Sizes.{largest}
 use Rattle.layout.specs.Bytes.{both}
 use Rattle.layout.proofs.Tests.{never, true-not-false, lt-or-le}
 use Rattle.walk.specs.declared.Entry.{Entry}
 use Rattle.walk.specs.Walk.{noEntry}
 use Rattle.state.specs.Lists.{pick}
-use Rattle.shore.specs.Cover.{spans}
 use Rattle.shore.proofs.Covering.{spans-in, spans-out}
 use Rattle.sheet.specs.declared.Piece.{Piece}
-use Rattle.sheet.specs.Sheet.{pieceSize, piece, goesOn}
+use Rattle.sheet.specs.Sheet.{pieceSize, goesOn}
 use Rattle.sheet.specs.Places.{overlies, topOf, keyAt, keyBy, isShort, grow}
 use Rattle.sheet.proofs.Right.{Last, AreThose, right}
 
@@ -110,9 +109,6 @@ some-key zero h = h
 some-key (suc k) h = omega arith
 
 module _ (es : List Entry) (n : ℕ) (short : (i : ℕ) → i < n → getD es i noEntry .length ≤ largest) where
-  abbrev c : ℕ → ℕ
-  c = keyBy es n
-
   hit : (p : ℕ) → 0 < keyBy es n p → Hit es n p
   hit p h =
       let k : 0 < topOf es n p = some-key (topOf es n p) h in
@@ -124,7 +120,8 @@ module _ (es : List Entry) (n : ℕ) (short : (i : ℕ) → i < n → getD es i 
   hold p w = key-some (topOf es n p) (covers-top es p n (w .i) (w .is) (spans-in _ _ p (w .low) (w .high)))
 
   -- the write that covers a piece's start begins behind the start of the piece before
-  apart : (q r : Piece) (e : ℕ) → Last (keyBy es n) e q → Last (keyBy es n) (q .start) r → goesOn isShort r (q .start) (q .key) ≡ false → (w : Hit es n (q .start)) → r .start < getD es (w .i) noEntry .offset
+  apart : (q r : Piece) (e : ℕ) → Last (keyBy es n) e q → Last (keyBy es n) (q .start) r → goesOn isShort r (q .start) (q .key) ≡ false
+      → (w : Hit es n (q .start)) → r .start < getD es (w .i) noEntry .offset
   unfolding goesOn both
   apart q r e tq tr j w = ⊎-elim (λ x. x) (λ x. absurd (⊎-elim (touch x) (gap x) (eq-or-lt-of-le (tr .ends)))) (lt-or-le (r .start) (getD es (w .i) noEntry .offset))
     where

@@ -3,20 +3,17 @@ use Prim.Native.Nat.{ℕ, zero, suc, _+_, _-_, _≤_, _<_}
 use native.Mathlib.Nat.{add-suc, add-zero, le-refl, eq-or-lt-of-le}
 use native.Mathlib.Numerals.{add-one}
 use native.Mathlib.Omega.{arith}
-use mathlib.Core.Path.{_≡_, refl, sym, ap, _∙_, subst}
-use mathlib.Core.Bool.{Bool, true, false}
-use mathlib.Core.Logic.{_⊎_, inl, inr, ⊎-elim}
-use mathlib.Core.List.{List, [], _∷_}
+use mathlib.Core.Path.{_≡_, refl, sym, ap, _∙_}
+use mathlib.Core.Bool.{Bool, false}
+use mathlib.Core.Logic.{⊎-elim}
+use mathlib.Core.List.{[], _∷_}
 use borrow.Author.Tests.{eq-eqb, ne-eqb, lt-ltb, le-ltb}
-use lib.ListN.{length}
 use lib.Dec.{eqb, ltb}
 use Rattle.layout.specs.Bytes.{both}
-use Rattle.layout.proofs.Tests.{lt-or-le}
 use Rattle.state.specs.Lists.{pick}
 use Rattle.state.proofs.Bools.{both-no, no-both}
-use Rattle.sheet.specs.declared.Piece.{Piece}
 use Rattle.sheet.specs.Sheet.{pieceSize, piece, goesOn, join, gather}
-use Rattle.sheet.specs.Places.{isShort, grow, total, Steady, First, Ends}
+use Rattle.sheet.specs.Places.{isShort, grow, First, Ends}
 
 -- two keys that agree at every place below give the same pieces
 pub gather-same : (may : ℕ → Bool) (c d : ℕ → ℕ) (p : ℕ) → ((q : ℕ) → q < p → c q ≡ d q) → gather may c p ≡ gather may d p

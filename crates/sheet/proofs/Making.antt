@@ -1,30 +1,27 @@
 -- The whole sheet: its parts stored one behind the other, and its length.
-use Prim.Native.Nat.{ℕ, _+_, _-_, _*_, _≤_, _<_}
+use Prim.Native.Nat.{ℕ, _+_, _*_, _≤_, _<_}
 use native.Mathlib.Omega.{arith}
-use mathlib.Core.Path.{_≡_, refl, sym, ap, _∙_, subst}
+use mathlib.Core.Path.{_≡_, refl, ap, _∙_}
 use mathlib.Core.List.{List, [], _∷_, _++_, map, append-assoc}
 use borrow.Author.Tests.{lt-ltb, le-ltb}
 use lib.ListN.{length, take, length-append}
 use lib.Seq.{take-at}
-use lib.Dec.{ltb}
 use Rattle.layout.specs.Sizes.{fileEnd}
 use Rattle.layout.specs.Bytes.{bytes4}
 use Rattle.walk.specs.declared.Entry.{Entry}
 use Rattle.walk.specs.Walk.{writeOf}
-use Rattle.state.specs.Lists.{pick}
 use Rattle.state.specs.Batch.{mostBatch}
 use Rattle.sheet.specs.declared.Piece.{Piece}
 use Rattle.sheet.specs.declared.Pieces.{Pieces}
-use Rattle.sheet.specs.declared.Made.{Made}
 use Rattle.sheet.specs.declared.Made.the-variants.{Sheet, Short}
 use Rattle.sheet.specs.Sheet.{listOf, dataBy, sheetBy, sheetOf}
-use Rattle.sheet.specs.Places.{keyBy, byteBy, grow, inOrder, total, piecesFrom, laidAt, laidIf, madeFrom, Batch, AllCovered}
+use Rattle.sheet.specs.Places.{keyBy, byteBy, grow, inOrder, total, piecesFrom, laidAt, laidIf, madeFrom, Batch}
 use Rattle.sheet.proofs.Few.{few-pieces}
 use Rattle.sheet.proofs.Collecting.{order-length}
 use Rattle.sheet.proofs.Covered.{grow-total}
 use Rattle.sheet.proofs.Storing.{laid-then, four-long, list-long, total-append}
 use Rattle.sheet.proofs.Reading.{sheet-length}
-use Rattle.sheet.proofs.Batches.{all-covered, sheet-writes}
+use Rattle.sheet.proofs.Batches.{sheet-writes}
 
 -- ---- the code's list of pieces
 
@@ -87,7 +84,8 @@ module _ (f : ℕ → ℕ) (es : List Entry) (n : ℕ) (b : Batch es n) (node : 
       omega arith
 
   module _ (d : List ℕ) where
-    pub made-short : length d < 8 + 8 * x .count + x .size → (Short ≡ madeFrom (length d) (sheetOf node (map (writeOf f) (take n es)))) × (d ≡ laidIf d (sheetOf node (map (writeOf f) (take n es))))
+    pub made-short : length d < 8 + 8 * x .count + x .size
+        → (Short ≡ madeFrom (length d) (sheetOf node (map (writeOf f) (take n es)))) × (d ≡ laidIf d (sheetOf node (map (writeOf f) (take n es))))
     made-short h =
         let t = lt-ltb (length d) (length (sheetOf node (map (writeOf f) (take n es)))) (let m = made-length in omega arith) in
         (rw t refl, rw t refl)

@@ -8,7 +8,6 @@ use mathlib.Core.Logic.{⊎-elim}
 use mathlib.Core.List.{List, [], _∷_}
 use borrow.Author.Tests.{ltb-true, eqb-true}
 use lib.Dec.{ltb, eqb}
-use Rattle.layout.specs.Bytes.{both}
 use Rattle.layout.proofs.Tests.{both-left, both-right, lt-or-le}
 use Rattle.state.specs.Lists.{pick}
 use Rattle.sheet.specs.declared.Piece.{Piece}

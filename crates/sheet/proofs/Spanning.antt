@@ -3,11 +3,11 @@ use Prim.Native.Nat.{ℕ, zero, suc, _+_, _-_, _*_, _≤_, _<_}
 use native.Mathlib.Nat.{add-zero, zero-add}
 use native.Mathlib.Omega.{arith}
 use mathlib.Core.Path.{_≡_, refl, sym, ap, _∙_, subst}
-use mathlib.Core.List.{List, [], _∷_, _++_, append-assoc}
+use mathlib.Core.List.{List, _∷_, _++_}
 use lib.ListN.{length, getD, take, drop, length-append, length-drop}
 use lib.Seq.{take-at, drop-drop, drop-append-add}
 use Rattle.layout.specs.Sizes.{slotSize, headSize}
-use Rattle.layout.specs.Bytes.{bytesAt, Same}
+use Rattle.layout.specs.Bytes.{bytesAt}
 use Rattle.layout.proofs.Views.{bytes-same, bytes-get, bytes-part, bytes-length}
 use Rattle.layout.proofs.Loops.{Taking}
 use Rattle.walk.specs.declared.Entry.{Entry}

@@ -6,7 +6,7 @@ use native.Mathlib.Omega.{arith}
 use mathlib.Core.Path.{_≡_, refl, sym, ap, _∙_}
 use mathlib.Core.List.{List, [], _∷_, _++_, append-assoc, append-nil}
 use lib.ListN.{length, getD, take, drop, set, length-append, length-take, length-drop, take-append-drop}
-use lib.Seq.{take-at, take-suc, take-take, length-take-le, drop-drop, sets, sets-eq, drop-append-add}
+use lib.Seq.{take-at, take-suc, take-take, length-take-le, drop-drop, sets-eq, drop-append-add}
 use borrow.Rule.Slice.PartMut.{putMid}
 use Rattle.layout.specs.Bytes.{bytes2, bytes4, bytesAt}
 use Rattle.layout.proofs.Views.{bytes-length}
@@ -76,7 +76,9 @@ part-long a e d h k = length-take-le (e - a) (drop a d) (let l = length-drop a d
 list-snoc : (qs : List Piece) (q : Piece) → listOf (qs ++ q ∷ []) ≡ listOf qs ++ (bytes4 (q .start) ++ bytes4 (q .size))
 unfolding listOf
 list-snoc [] q = append-nil (bytes4 (q .start) ++ bytes4 (q .size))
-list-snoc (r ∷ qs) q = ap (_++_ (bytes4 (r .start) ++ bytes4 (r .size))) (list-snoc qs q) ∙ sym (append-assoc (bytes4 (r .start) ++ bytes4 (r .size)) (listOf qs) (bytes4 (q .start) ++ bytes4 (q .size)))
+list-snoc (r ∷ qs) q =
+    ap (_++_ (bytes4 (r .start) ++ bytes4 (r .size))) (list-snoc qs q)
+    ∙ sym (append-assoc (bytes4 (r .start) ++ bytes4 (r .size)) (listOf qs) (bytes4 (q .start) ++ bytes4 (q .size)))
 
 pub list-long : (qs : List Piece) → length (listOf qs) ≡ 8 * length qs
 unfolding listOf
@@ -86,7 +88,9 @@ list-long (q ∷ qs) = simp (length-append, four-long, list-long qs) (omega arit
 data-snoc : (b : ℕ → ℕ) (qs : List Piece) (q : Piece) → dataBy b (qs ++ q ∷ []) ≡ dataBy b qs ++ bytesAt b (q .start) (q .size)
 unfolding dataBy
 data-snoc b [] q = append-nil (bytesAt b (q .start) (q .size))
-data-snoc b (r ∷ qs) q = ap (_++_ (bytesAt b (r .start) (r .size))) (data-snoc b qs q) ∙ sym (append-assoc (bytesAt b (r .start) (r .size)) (dataBy b qs) (bytesAt b (q .start) (q .size)))
+data-snoc b (r ∷ qs) q =
+    ap (_++_ (bytesAt b (r .start) (r .size))) (data-snoc b qs q)
+    ∙ sym (append-assoc (bytesAt b (r .start) (r .size)) (dataBy b qs) (bytesAt b (q .start) (q .size)))
 
 pub data-long : (b : ℕ → ℕ) (qs : List Piece) → length (dataBy b qs) ≡ total qs
 unfolding dataBy

@@ -1,17 +1,16 @@
 -- The walk over places: how far the newest write stays the same, the next start, the piece's end.
-use Prim.Native.Nat.{ℕ, zero, suc, _+_, _-_, _≤_, _<_}
+use Prim.Native.Nat.{ℕ, zero, suc, _+_, _≤_, _<_}
 use native.Mathlib.Nat.{eq-or-lt-of-le}
 use native.Mathlib.Numerals.{add-one}
 use native.Mathlib.Omega.{arith}
 use mathlib.Core.Path.{_≡_, refl, sym, ap, _∙_}
-use mathlib.Core.Bool.{Bool, true, false}
+use mathlib.Core.Bool.{true, false}
 use mathlib.Core.Logic.{⊎-elim}
 use mathlib.Core.List.{List}
 use lib.ListN.{getD}
 use Rattle.layout.proofs.Tests.{lt-or-le}
 use Rattle.walk.specs.declared.Entry.{Entry}
 use Rattle.walk.specs.Walk.{noEntry}
-use Rattle.state.specs.Lists.{pick}
 use Rattle.shore.specs.Cover.{spans}
 use Rattle.shore.proofs.Covering.{spans-in, spans-before, spans-after}
 use Rattle.sheet.specs.Sheet.{pieceSize}

@@ -1,16 +1,12 @@
-use Prim.Native.Nat.{ℕ, _+_, _-_, _≤_}
+-- `sheet::find_at` meets its contract: the invariant: of the writes so far, the newest that covers the place (`topOf`), and a place up to which that stays so (`Steady`).
+use Prim.Native.Nat.{_-_, _≤_}
 use mathlib.Core.Path.{_≡_, sym, ap, _∙_, subst}
 use mathlib.Core.Logic.{⊎-elim}
+use native.Mathlib.Omega.{arith}
 use Rattle.sheet.specs.Places.{topOf, Steady}
 use Rattle.sheet.proofs.Walking.{top-none, top-over, top-under, steady-none, steady-more}
-use native.Mathlib.Omega.{arith}
-use borrow.Author.Needs.{needs}
 use Rattle.sheet.proofs.find_at.Statement.{statement}
 use Rattle.sheet.proofs.find_at.Tie as tie
-use Rattle.sheet.proofs.find_at.Reads as reads
-use Rattle.sheet.proofs.find_at.Lts as lts
-use Rattle.sheet.proofs.is_over.Reads as is-over-reads
-use Rattle.sheet.proofs.nearer.Reads as nearer-reads
 
 abbrev Inv-loop : tie.InvT-loop
 Inv-loop count end p entries newest₀ until₀ i₀ newest until i = (i ≤ count) × (newest ≡ topOf entries i p) × Steady (topOf entries i) p end until
@@ -18,39 +14,30 @@ Inv-loop count end p entries newest₀ until₀ i₀ newest until i = (i ≤ cou
 abbrev μ-loop : tie.MeasureT-loop
 μ-loop count end p entries newest₀ until₀ i₀ newest until i = count - i
 
--- src/lib.rt:97:5
 loop-holds : tie.Need-loop-holds Inv-loop μ-loop
 loop-holds c = (omega arith, top-none _ _, steady-none _ _ _ (c .pre .1))
 
--- src/lib.rt:98:21
 mul-entry : tie.Need-mul-entry Inv-loop μ-loop
 mul-entry c = omega (arith, c .before .before .pre .0 .few, c .before .before .pre .0 .long)
 
--- src/lib.rt:98:21
 array-copy-out-entry : tie.Need-array-copy-out-entry Inv-loop μ-loop
 array-copy-out-entry c = omega (arith, c .before .before .pre .0 .few, c .before .before .pre .0 .long)
 
--- src/lib.rt:99:12
 is-over-requires : tie.Need-is-over-requires Inv-loop μ-loop
 is-over-requires c κs = c .before .before .before .pre .0 .ends _ (c .before .loop-test .taken)
 
--- src/lib.rt:100:22
 add-newest : tie.Need-add-newest Inv-loop μ-loop
 add-newest c = omega (arith, c .before .before .before .before .loop .inv .0)
 
--- src/lib.rt:102:9
 nearer-requires : tie.Need-nearer-requires Inv-loop μ-loop
 nearer-requires c κs = (c .before .before .before .before .loop .inv .2 .after, c .before .before .before .before .before .pre .0 .ends _ (c .before .before .before .loop-test .taken))
 
--- src/lib.rt:103:9
 add-i : tie.Need-add-i Inv-loop μ-loop
 add-i c = omega arith
 
--- src/lib.rt:97:5
 loop-less : tie.Need-loop-less Inv-loop μ-loop
 loop-less c = omega arith
 
--- src/lib.rt:97:5
 loop-again : tie.Need-loop-again Inv-loop μ-loop
 loop-again c =
     let l = c .before .before .before .before .before .loop in
@@ -60,7 +47,6 @@ loop-again c =
       steady-more _ _ _ _ _ _ (l .inv .2) (c .nearer .ensures),
     )
 
--- src/lib.rt:89:1
 returns : tie.Need-returns Inv-loop μ-loop
 returns c =
     let l = c .before .loop in

@@ -1,16 +1,12 @@
-use Prim.Native.Nat.{ℕ, _-_}
-use mathlib.Core.Path.{_≡_, sym, ap, _∙_}
-use Rattle.sheet.specs.Places.{topOf, keyAt, keyBy}
-use Rattle.sheet.proofs.Walking.{Through, through-none, through-more, ends-other, ends-full, key-steady}
+-- `sheet::piece_end` meets its contract: `Through`: all from s up to e has the key of s; the end is a place with another key (`ends-other`) or the limit (`ends-full`).
+use Prim.Native.Nat.{_-_}
+use mathlib.Core.Path.{sym, ap, _∙_}
 use native.Mathlib.Omega.{arith}
 use borrow.Author.Needs.{needs}
+use Rattle.sheet.specs.Places.{keyAt, keyBy}
+use Rattle.sheet.proofs.Walking.{Through, through-none, through-more, ends-other, ends-full, key-steady}
 use Rattle.sheet.proofs.piece_end.Statement.{statement}
 use Rattle.sheet.proofs.piece_end.Tie as tie
-use Rattle.sheet.proofs.piece_end.Reads as reads
-use Rattle.sheet.proofs.piece_end.Lts as lts
-use Rattle.sheet.proofs.find_at.Reads as find-at-reads
-use Rattle.sheet.proofs.key_of.Reads as key-of-reads
-use Rattle.sheet.proofs.limit.Reads as limit-reads
 
 abbrev Inv-loop : tie.InvT-loop
 Inv-loop entries count end s key last e₀ e = Through (keyBy entries count) (keyBy entries count s) s last e
@@ -18,42 +14,35 @@ Inv-loop entries count end s key last e₀ e = Through (keyBy entries count) (ke
 abbrev μ-loop : tie.MeasureT-loop
 μ-loop entries count end s key last e₀ e = last - e
 
--- src/lib.rt:142:9
 limit-requires : tie.Need-limit-requires Inv-loop μ-loop
 limit-requires c κs = (c .pre .1 .0, c .pre .1 .1)
 
--- src/lib.rt:144:5
 loop-holds : tie.Need-loop-holds Inv-loop μ-loop
 loop-holds c =
     let m = c .limit .ensures in
     through-none _ _ _ _ (omega (arith, m .0))
 
--- src/lib.rt:145:13
 find-at-requires : tie.Need-find-at-requires Inv-loop μ-loop
 find-at-requires c κs = (c .before .before .before .pre .0, c .loop-test .taken)
 
--- src/lib.rt:146:12
 key-of-requires : tie.Need-key-of-requires Inv-loop μ-loop
 key-of-requires c κs = search needs
 
--- src/lib.rt:147:13
 returns : tie.Need-returns Inv-loop μ-loop
 returns c =
     let m = c .before .before .before .before .before .limit .ensures in
     let k = c .before .key-of .ensures ∙ ap keyAt (c .before .before .find-at .ensures .newest) in
     ends-other _ _ _ _ _ (c .before .before .before .before .loop .inv) (λ x. c .if1 .taken (k ∙ x ∙ sym (c .before .before .before .before .before .before .pre .1 .2))) (m .1) (m .2)
 
--- src/lib.rt:144:5
 loop-less : tie.Need-loop-less Inv-loop μ-loop
 loop-less c = omega (arith, c .before .before .find-at .ensures .until .after)
 
--- src/lib.rt:144:5
 loop-again : tie.Need-loop-again Inv-loop μ-loop
 loop-again c =
     let k = c .before .key-of .ensures ∙ ap keyAt (c .before .before .find-at .ensures .newest) in
-    through-more _ _ _ _ _ _ (c .before .before .before .before .loop .inv) (sym k ∙ c .if1 .left ∙ c .before .before .before .before .before .before .pre .1 .2) (key-steady _ _ _ _ _ (c .before .before .find-at .ensures .until))
+    through-more _ _ _ _ _ _ (c .before .before .before .before .loop .inv) (sym k ∙ c .if1 .left ∙ c .before .before .before .before .before .before .pre .1 .2)
+    (key-steady _ _ _ _ _ (c .before .before .find-at .ensures .until))
 
--- src/lib.rt:137:1
 returns-2 : tie.Need-returns-2 Inv-loop μ-loop
 returns-2 c =
     let m = c .before .before .limit .ensures in

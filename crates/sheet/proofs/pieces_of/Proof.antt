@@ -1,16 +1,11 @@
-use Prim.Native.Nat.{ℕ, _-_}
-use Rattle.sheet.specs.Places.{keyBy}
-use Rattle.sheet.proofs.Collecting.{Collected, collect-start, collect-room, collect-on, collect-end}
+-- `sheet::pieces_of` meets its contract: `Collected`: what is listed are the pieces of the places below s, and no byte from s on goes on the last of them.
+use Prim.Native.Nat.{_-_, _<_}
 use native.Mathlib.Omega.{arith}
 use borrow.Author.Needs.{needs}
+use Rattle.sheet.specs.Places.{mostBatch, keyBy}
+use Rattle.sheet.proofs.Collecting.{Collected, collect-start, collect-room, collect-on, collect-end}
 use Rattle.sheet.proofs.pieces_of.Statement.{statement}
 use Rattle.sheet.proofs.pieces_of.Tie as tie
-use Rattle.sheet.proofs.pieces_of.Reads as reads
-use Rattle.sheet.proofs.pieces_of.Lts as lts
-use Rattle.sheet.proofs.key_at.Reads as key-at-reads
-use Rattle.sheet.proofs.next_start.Reads as next-start-reads
-use Rattle.sheet.proofs.no_pieces.Reads as no-pieces-reads
-use Rattle.sheet.proofs.piece_end.Reads as piece-end-reads
 
 abbrev Inv-loop : tie.InvT-loop
 Inv-loop entries count end list₀ many₀ size₀ s₀ list many size s = Collected (keyBy entries count) end list many size s
@@ -18,67 +13,57 @@ Inv-loop entries count end list₀ many₀ size₀ s₀ list many size s = Colle
 abbrev μ-loop : tie.MeasureT-loop
 μ-loop entries count end list₀ many₀ size₀ s₀ list many size s = end - s
 
--- src/lib.rt:179:15
+-- there is room for one piece more
+room : (c : tie.After-piece-end Inv-loop μ-loop) → c .before .before .before .loop .many < mostBatch
+room c = collect-room _ _ (c .before .before .before .before .before .before .pre) _ _ _ _ _ (c .before .before .before .loop .inv) (c .before .before .loop-test .taken) _ (c .piece-end .ensures)
+
 cast-end : tie.Need-cast-end Inv-loop μ-loop
 cast-end c = search needs
 
--- src/lib.rt:180:20
 no-pieces-requires : tie.Need-no-pieces-requires Inv-loop μ-loop
 no-pieces-requires c κs = search needs
 
--- src/lib.rt:183:9
 next-start-requires : tie.Need-next-start-requires Inv-loop μ-loop
 next-start-requires c κs = (c .before .pre, omega arith)
 
--- src/lib.rt:184:5
 loop-holds : tie.Need-loop-holds Inv-loop μ-loop
 loop-holds c = collect-start _ _ _ _ (c .before .no-pieces .ensures) (c .next-start .ensures)
 
--- src/lib.rt:185:13
 key-at-requires : tie.Need-key-at-requires Inv-loop μ-loop
 key-at-requires c κs = (c .before .before .before .before .pre, c .loop-test .taken)
 
--- src/lib.rt:186:13
 piece-end-requires : tie.Need-piece-end-requires Inv-loop μ-loop
 piece-end-requires c κs = (c .before .before .before .before .before .pre, (c .before .loop-test .taken, omega arith, c .key-at .ensures))
 
--- src/lib.rt:189:19
 sub-size : tie.Need-sub-size Inv-loop μ-loop
 sub-size c = omega (arith, c .piece-end .ensures .after)
 
--- src/lib.rt:187:9
 mul-list : tie.Need-mul-list Inv-loop μ-loop
-mul-list c = omega (arith, collect-room _ _ (c .before .before .before .before .before .before .pre) _ _ _ _ _ (c .before .before .before .loop .inv) (c .before .before .loop-test .taken) _ (c .piece-end .ensures))
+mul-list c = omega (arith, room c)
 
--- src/lib.rt:187:9
 array-set-from-list : tie.Need-array-set-from-list Inv-loop μ-loop
-array-set-from-list c = omega (arith, collect-room _ _ (c .before .before .before .before .before .before .pre) _ _ _ _ _ (c .before .before .before .loop .inv) (c .before .before .loop-test .taken) _ (c .piece-end .ensures))
+array-set-from-list c = omega (arith, room c)
 
--- src/lib.rt:192:9
 add-many : tie.Need-add-many Inv-loop μ-loop
-add-many c = omega (arith, collect-room _ _ (c .before .before .before .before .before .before .pre) _ _ _ _ _ (c .before .before .before .loop .inv) (c .before .before .loop-test .taken) _ (c .piece-end .ensures))
+add-many c = omega (arith, room c)
 
--- src/lib.rt:193:17
 sub-size-2 : tie.Need-sub-size-2 Inv-loop μ-loop
 sub-size-2 c = omega (arith, c .piece-end .ensures .after)
 
--- src/lib.rt:193:9
 add-size : tie.Need-add-size Inv-loop μ-loop
 add-size c = omega (arith, c .before .before .before .loop .inv .within, c .piece-end .ensures .most)
 
--- src/lib.rt:194:9
 next-start-requires-2 : tie.Need-next-start-requires-2 Inv-loop μ-loop
 next-start-requires-2 c κs = (c .before .before .before .before .before .before .pre, c .piece-end .ensures .most)
 
--- src/lib.rt:184:5
 loop-less : tie.Need-loop-less Inv-loop μ-loop
 loop-less c = omega (arith, c .before .piece-end .ensures .after, c .next-start2 .ensures .from)
 
--- src/lib.rt:184:5
 loop-again : tie.Need-loop-again Inv-loop μ-loop
-loop-again c = collect-on _ _ (c .before .before .before .before .before .before .before .pre) _ _ _ _ _ (c .before .before .before .before .loop .inv) (c .before .before .before .loop-test .taken) _ _ (c .before .piece-end .ensures) (c .next-start2 .ensures) _ (c .before .before .key-at .ensures)
+loop-again c =
+    collect-on _ _ (c .before .before .before .before .before .before .before .pre) _ _ _ _ _ (c .before .before .before .before .loop .inv) (c .before .before .before .loop-test .taken) _ _
+    (c .before .piece-end .ensures) (c .next-start2 .ensures) _ (c .before .before .key-at .ensures)
 
--- src/lib.rt:175:1
 returns : tie.Need-returns Inv-loop μ-loop
 returns c = collect-end _ _ _ _ _ _ (c .before .loop .inv) (c .loop-test .left)
 

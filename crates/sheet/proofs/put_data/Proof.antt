@@ -1,47 +1,41 @@
-use Prim.Native.Nat.{ℕ, _+_, _-_, _≤_}
-use mathlib.Core.Path.{_≡_, refl, sym, ap, _∙_, subst}
+-- `sheet::put_data` meets its contract: the invariant: the bytes of the first k pieces stand from `from` up to `at`, and the rest of the buffer is as it was.
+use Prim.Native.Nat.{_+_, _-_, _≤_}
+use mathlib.Core.Path.{_≡_, refl, ap, _∙_}
 use lib.ListN.{length, take, getD}
 use lib.Seq.{getD-take, length-take-le}
+use native.Mathlib.Omega.{arith}
 use Rattle.layout.specs.Bytes.{round, bytesAt}
 use Rattle.sheet.specs.declared.Piece.{Piece}
 use Rattle.sheet.specs.Sheet.{dataBy}
-use Rattle.sheet.specs.Places.{noPiece, total, laidAt, byteBy, Covered}
+use Rattle.sheet.specs.Places.{noPiece, total, laidAt, byteBy}
 use Rattle.sheet.proofs.Storing.{laid-none, data-more, total-more, total-room}
-use native.Mathlib.Omega.{arith}
-use borrow.Author.Needs.{needs}
 use Rattle.sheet.proofs.put_data.Statement.{statement}
 use Rattle.sheet.proofs.put_data.Tie as tie
-use Rattle.sheet.proofs.put_data.Reads as reads
-use Rattle.sheet.proofs.put_data.Lts as lts
-use Rattle.sheet.proofs.put_part.Reads as put-part-reads
 
 abbrev Inv-loop : tie.InvT-loop
-Inv-loop bytes n entries count many buffer₀ from list at₀ k₀ buffer at k = (k ≤ many) × (length buffer ≡ length buffer₀) × (at ≡ from + total (take k list)) × (buffer ≡ laidAt buffer₀ from (dataBy (byteBy (round bytes n) entries count) (take k list)))
+Inv-loop bytes n entries count many buffer₀ from list at₀ k₀ buffer at k =
+    (k ≤ many) × (length buffer ≡ length buffer₀) × (at ≡ from + total (take k list))
+    × (buffer ≡ laidAt buffer₀ from (dataBy (byteBy (round bytes n) entries count) (take k list)))
 
 abbrev μ-loop : tie.MeasureT-loop
 μ-loop bytes n entries count many buffer₀ from list at₀ k₀ buffer at k = many - k
 
--- src/lib.rt:311:5
 loop-holds : tie.Need-loop-holds Inv-loop μ-loop
 unfolding dataBy
 loop-holds c = (omega arith, refl, omega arith, laid-none _ _)
 
--- src/lib.rt:312:21
 mul-piece : tie.Need-mul-piece Inv-loop μ-loop
 mul-piece c = omega (arith, c .before .before .before .before .pre .1 .1 .0)
 
--- src/lib.rt:312:21
 array-copy-out-piece : tie.Need-array-copy-out-piece Inv-loop μ-loop
 array-copy-out-piece c = omega (arith, c .before .before .before .before .pre .1 .1 .0)
 
--- src/lib.rt:313:19
 add-end : tie.Need-add-end Inv-loop μ-loop
 add-end c =
     let a = c .before .before .before .before .before .before .args in
     let o = total-room (a .t5) (c .before .before .before .loop .k) (a .many) (omega arith) (omega (arith, c .before .before .before .before .before .before .pre .1 .1 .0)) in
     omega (arith, c .before .before .before .before .before .before .pre .1 .1 .1, c .before .before .before .loop .inv .2)
 
--- src/lib.rt:314:9
 put-part-requires : tie.Need-put-part-requires Inv-loop μ-loop
 put-part-requires c κs =
     let a = c .before .before .before .before .before .before .before .args in
@@ -59,15 +53,12 @@ put-part-requires c κs =
     let r = p .1 .1 .1 in
     (p .0, (p .1 .0, (omega arith, omega arith, rw z (rw g at (p .1 .1 .2 .ends (l .k) (omega arith))), rw z (rw g at (p .1 .1 .2 .each (l .k) (omega arith))))))
 
--- src/lib.rt:316:9
 add-k : tie.Need-add-k Inv-loop μ-loop
 add-k c = omega arith
 
--- src/lib.rt:311:5
 loop-less : tie.Need-loop-less Inv-loop μ-loop
 loop-less c = omega arith
 
--- src/lib.rt:311:5
 loop-again : tie.Need-loop-again Inv-loop μ-loop
 loop-again c =
     let a = c .before .before .before .before .before .before .before .before .before .before .args in
@@ -88,11 +79,9 @@ loop-again c =
           ∙ ap (λ d. laidAt d (l .at) (bytesAt (byteBy (round (a .bytes .now) (a .n)) (a .entries) (a .count)) (q .start) (q .size))) (l .inv .3)),
     )
 
--- src/lib.rt:294:1
 same-length : tie.Need-same-length Inv-loop μ-loop
 same-length c = c .before .loop .inv .1
 
--- src/lib.rt:294:1
 returns : tie.Need-returns Inv-loop μ-loop
 returns c =
     let l = c .before .loop in

@@ -1,61 +1,47 @@
+-- `sheet::put_number` meets its contract: four stores of a byte lay the number's four bytes (`laid-four`).
 use lib.ListN.{length-set}
-use Rattle.sheet.proofs.Storing.{laid-four}
 use native.Mathlib.Omega.{arith}
 use borrow.Author.Needs.{needs}
+use Rattle.sheet.proofs.Storing.{laid-four}
 use Rattle.sheet.proofs.put_number.Statement.{statement}
 use Rattle.sheet.proofs.put_number.Tie as tie
-use Rattle.sheet.proofs.put_number.Reads as reads
-use Rattle.sheet.proofs.put_number.Lts as lts
 
--- src/lib.rt:208:18
 cast-buffer : tie.Need-cast-buffer
 cast-buffer c = search needs
 
--- src/lib.rt:208:5
 slice-write-buffer : tie.Need-slice-write-buffer
 slice-write-buffer c = search needs
 
--- src/lib.rt:209:22
 cast-buffer-2 : tie.Need-cast-buffer-2
 cast-buffer-2 c = search needs
 
--- src/lib.rt:209:12
 add-buffer : tie.Need-add-buffer
 add-buffer c = search needs
 
--- src/lib.rt:209:5
 slice-write-buffer-2 : tie.Need-slice-write-buffer-2
 slice-write-buffer-2 c = simp length-set (omega arith)
 
--- src/lib.rt:210:22
 cast-buffer-3 : tie.Need-cast-buffer-3
 cast-buffer-3 c = search needs
 
--- src/lib.rt:210:12
 add-buffer-2 : tie.Need-add-buffer-2
 add-buffer-2 c = search needs
 
--- src/lib.rt:210:5
 slice-write-buffer-3 : tie.Need-slice-write-buffer-3
 slice-write-buffer-3 c = simp length-set (omega arith)
 
--- src/lib.rt:211:22
 cast-buffer-4 : tie.Need-cast-buffer-4
 cast-buffer-4 c = search needs
 
--- src/lib.rt:211:12
 add-buffer-3 : tie.Need-add-buffer-3
 add-buffer-3 c = search needs
 
--- src/lib.rt:211:5
 slice-write-buffer-4 : tie.Need-slice-write-buffer-4
 slice-write-buffer-4 c = simp length-set (omega arith)
 
--- src/lib.rt:204:1
 same-length : tie.Need-same-length
 same-length c = search needs
 
--- src/lib.rt:204:1
 returns : tie.Need-returns
 returns c = laid-four _ _ _ (c .pre)
 

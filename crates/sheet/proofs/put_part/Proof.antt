@@ -1,30 +1,23 @@
+-- `sheet::put_part` meets its contract: what came back in the part is laid in the whole buffer (`part-laid`).
 use Prim.Native.Nat.{_-_}
 use mathlib.Core.Path.{ap, _∙_}
+use borrow.Author.Needs.{needs}
 use Rattle.layout.specs.Bytes.{round, bytesAt}
 use Rattle.layout.proofs.Views.{bytes-length}
 use Rattle.sheet.specs.Places.{byteBy}
-use Rattle.sheet.proofs.Storing.{part-back, part-long, part-laid}
-use native.Mathlib.Omega.{arith}
-use borrow.Author.Needs.{needs}
+use Rattle.sheet.proofs.Storing.{part-long, part-laid}
 use Rattle.sheet.proofs.put_part.Statement.{statement}
 use Rattle.sheet.proofs.put_part.Tie as tie
-use Rattle.sheet.proofs.put_part.Reads as reads
-use Rattle.sheet.proofs.put_part.Lts as lts
-use Rattle.sheet.proofs.put_piece.Reads as put-piece-reads
 
--- src/lib.rt:276:48
 sub-put-piece : tie.Need-sub-put-piece
 sub-put-piece c = search needs
 
--- src/lib.rt:276:48
 part-put-piece-start : tie.Need-part-put-piece-start
 part-put-piece-start c = search needs
 
--- src/lib.rt:276:48
 part-put-piece-end : tie.Need-part-put-piece-end
 part-put-piece-end c = search needs
 
--- src/lib.rt:276:5
 put-piece-requires : tie.Need-put-piece-requires
 put-piece-requires c κs =
     let a = c .before .before .before .args in
@@ -32,11 +25,9 @@ put-piece-requires c κs =
     let l = part-long (a .at) (a .end) (a .buffer .now) (k .1 .1 .0) (k .1 .1 .1) in
     (k .0, (k .1 .0, rw l (k .1 .1 .2, k .1 .1 .3)))
 
--- src/lib.rt:261:1
 same-length : tie.Need-same-length
 same-length c = search needs
 
--- src/lib.rt:261:1
 returns : tie.Need-returns
 returns c =
     let a = c .before .before .before .before .before .before .args in

@@ -1,38 +1,29 @@
+-- `sheet::put_span` meets its contract: what came back in the part, said of the whole buffer (`part-back`).
 use mathlib.Core.Path.{ap, _∙_}
 use lib.ListN.{take, drop}
-use Rattle.layout.specs.Bytes.{round}
-use Rattle.walk.specs.Entry.{dataOf}
-use Rattle.sheet.proofs.Storing.{part-long}
-use Rattle.sheet.proofs.Storing.{part-back}
 use native.Mathlib.Omega.{arith}
 use borrow.Author.Needs.{needs}
+use Rattle.layout.specs.Bytes.{round}
+use Rattle.walk.specs.Entry.{dataOf}
+use Rattle.sheet.proofs.Storing.{part-long, part-back}
 use Rattle.sheet.proofs.put_span.Statement.{statement}
 use Rattle.sheet.proofs.put_span.Tie as tie
-use Rattle.sheet.proofs.put_span.Reads as reads
-use Rattle.sheet.proofs.put_span.Lts as lts
-use Rattle.walk.proofs.entry_bytes.Reads as entry-bytes-reads
 
--- src/lib.rt:230:46
 sub-entry-bytes : tie.Need-sub-entry-bytes
 sub-entry-bytes c = search needs
 
--- src/lib.rt:230:46
 part-entry-bytes-start : tie.Need-part-entry-bytes-start
 part-entry-bytes-start c = search needs
 
--- src/lib.rt:230:46
 part-entry-bytes-end : tie.Need-part-entry-bytes-end
 part-entry-bytes-end c = search needs
 
--- src/lib.rt:230:5
 entry-bytes-requires : tie.Need-entry-bytes-requires
 entry-bytes-requires c κs = search needs
 
--- src/lib.rt:216:1
 same-length : tie.Need-same-length
 same-length c = search needs
 
--- src/lib.rt:216:1
 returns : tie.Need-returns
 returns c =
     let a = c .before .before .before .before .before .before .args in
