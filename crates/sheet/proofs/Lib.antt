@@ -11,3 +11,4 @@ pub mod Reading
 pub mod Laying
 pub mod Batches
 pub mod Making
+pub mod Writes

@@ -6,7 +6,8 @@ use native.Mathlib.Omega.{arith}
 use borrow.Author.Needs.{needs}
 use Rattle.layout.specs.Sizes.{fileEnd}
 use Rattle.layout.specs.Bytes.{round}
-use Rattle.sheet.specs.Places.{mostBatch, keyBy, grow, inOrder, total}
+use Rattle.state.specs.Batch.{mostBatch}
+use Rattle.sheet.specs.Places.{keyBy, grow, inOrder, total}
 use Rattle.sheet.proofs.Making.{ListedAs, listed-as, pieces-few, pieces-small, made-short, made-whole}
 use Rattle.sheet.proofs.make_sheet.Statement.{statement}
 use Rattle.sheet.proofs.make_sheet.Tie as tie

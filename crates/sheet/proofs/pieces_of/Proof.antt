@@ -2,7 +2,8 @@
 use Prim.Native.Nat.{_-_, _<_}
 use native.Mathlib.Omega.{arith}
 use borrow.Author.Needs.{needs}
-use Rattle.sheet.specs.Places.{mostBatch, keyBy}
+use Rattle.state.specs.Batch.{mostBatch}
+use Rattle.sheet.specs.Places.{keyBy}
 use Rattle.sheet.proofs.Collecting.{Collected, collect-start, collect-room, collect-on, collect-end}
 use Rattle.sheet.proofs.pieces_of.Statement.{statement}
 use Rattle.sheet.proofs.pieces_of.Tie as tie
