@@ -1,1 +1,3 @@
 pub mod Shores
+pub mod Seeing
+pub mod Pinning
