@@ -1,0 +1,29 @@
+use native.Mathlib.Omega.{arith}
+use borrow.Author.Needs.{needs}
+use Rattle.fill.proofs.count_of.Statement.{statement}
+use Rattle.fill.proofs.count_of.Tie as tie
+use Rattle.fill.proofs.count_of.Reads as reads
+use Rattle.fill.proofs.count_of.Lts as lts
+
+-- src/lib.rt:181:9
+returns : tie.Need-returns
+returns c = ?
+
+-- src/lib.rt:183:18
+sub-reach : tie.Need-sub-reach
+sub-reach c = search needs
+
+-- src/lib.rt:185:9
+returns-2 : tie.Need-returns-2
+returns-2 c = ?
+
+-- src/lib.rt:188:9
+returns-3 : tie.Need-returns-3
+returns-3 c = ?
+
+-- src/lib.rt:175:1
+returns-4 : tie.Need-returns-4
+returns-4 c = ?
+
+pub count-of-spec : {M : Type 1} → statement M
+count-of-spec = tie.close (tie.spec returns sub-reach returns-2 returns-3 returns-4)
