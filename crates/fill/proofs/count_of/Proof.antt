@@ -1,3 +1,4 @@
+use Rattle.fill.proofs.Filling.{count-is}
 use native.Mathlib.Omega.{arith}
 use borrow.Author.Needs.{needs}
 use Rattle.fill.proofs.count_of.Statement.{statement}
@@ -7,7 +8,10 @@ use Rattle.fill.proofs.count_of.Lts as lts
 
 -- src/lib.rt:181:9
 returns : tie.Need-returns
-returns c = ?
+returns c =
+    let a = c .before .args in
+    let k = count-is (a .n) (a .g) (a .offset) (a .end) in
+    (omega arith, omega arith, omega arith)
 
 -- src/lib.rt:183:18
 sub-reach : tie.Need-sub-reach
@@ -15,15 +19,24 @@ sub-reach c = search needs
 
 -- src/lib.rt:185:9
 returns-2 : tie.Need-returns-2
-returns-2 c = ?
+returns-2 c =
+    let a = c .before .before .args in
+    let k = count-is (a .n) (a .g) (a .offset) (a .end) in
+    (omega arith, omega arith, omega arith)
 
 -- src/lib.rt:188:9
 returns-3 : tie.Need-returns-3
-returns-3 c = ?
+returns-3 c =
+    let a = c .before .before .before .args in
+    let k = count-is (a .n) (a .g) (a .offset) (a .end) in
+    (omega arith, omega arith, omega arith)
 
 -- src/lib.rt:175:1
 returns-4 : tie.Need-returns-4
-returns-4 c = ?
+returns-4 c =
+    let a = c .before .before .before .args in
+    let k = count-is (a .n) (a .g) (a .offset) (a .end) in
+    (omega arith, omega arith, omega arith)
 
 pub count-of-spec : {M : Type 1} → statement M
 count-of-spec = tie.close (tie.spec returns sub-reach returns-2 returns-3 returns-4)

@@ -1,3 +1,7 @@
+use borrow.Author.Tests.{eq-eqb, ne-eqb, le-leb}
+use Rattle.layout.specs.Bytes.{both}
+use Rattle.shore.specs.Cover.{spans}
+use Rattle.shore.proofs.Covering.{spans-before}
 use native.Mathlib.Omega.{arith}
 use borrow.Author.Needs.{needs}
 use Rattle.fill.proofs.is_over.Statement.{statement}
@@ -15,11 +19,13 @@ cast-size c = search needs
 
 -- src/lib.rt:109:9
 returns : tie.Need-returns
-returns c = ?
+unfolding both
+returns c = rw (ne-eqb _ _ (c .if1 .taken))
 
 -- src/lib.rt:112:9
 returns-2 : tie.Need-returns-2
-returns-2 c = ?
+unfolding both
+returns-2 c = rw (eq-eqb _ _ (c .before .if1 .left), spans-before _ _ _ (c .if2 .taken))
 
 -- src/lib.rt:114:9
 add-result : tie.Need-add-result
@@ -27,7 +33,8 @@ add-result c = search needs
 
 -- src/lib.rt:102:1
 returns-3 : tie.Need-returns-3
-returns-3 c = ?
+unfolding both spans
+returns-3 c = rw (eq-eqb _ _ (c .before .if1 .left), le-leb _ _ (c .if2 .left))
 
 pub is-over-spec : {M : Type 1} → statement M
 is-over-spec = tie.close (tie.spec cast-start cast-size returns returns-2 add-result returns-3)

@@ -1,0 +1,3 @@
+pub mod Searching
+pub mod Overlaying
+pub mod Filling

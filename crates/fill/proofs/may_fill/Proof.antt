@@ -1,0 +1,67 @@
+use native.Mathlib.Omega.{arith}
+use borrow.Author.Needs.{needs}
+use Rattle.fill.proofs.may_fill.Statement.{statement}
+use Rattle.fill.proofs.may_fill.Tie as tie
+use Rattle.fill.proofs.may_fill.Reads as reads
+use Rattle.fill.proofs.may_fill.Lts as lts
+use Rattle.fill.proofs.is_pinned.Reads as is-pinned-reads
+
+-- src/lib.rt:79:9
+returns : tie.Need-returns
+returns c = ?
+
+-- src/lib.rt:81:9
+cast-if2 : tie.Need-cast-if2
+cast-if2 c = search needs
+
+-- src/lib.rt:82:9
+returns-2 : tie.Need-returns-2
+returns-2 c = ?
+
+-- src/lib.rt:84:26
+cast-if3 : tie.Need-cast-if3
+cast-if3 c = search needs
+
+-- src/lib.rt:84:8
+sub-if3 : tie.Need-sub-if3
+sub-if3 c = search needs
+
+-- src/lib.rt:85:9
+returns-3 : tie.Need-returns-3
+returns-3 c = ?
+
+-- src/lib.rt:87:9
+is-pinned-requires : tie.Need-is-pinned-requires
+is-pinned-requires c κs = search needs
+
+-- src/lib.rt:88:9
+returns-4 : tie.Need-returns-4
+returns-4 c = ?
+
+-- src/lib.rt:91:9
+returns-5 : tie.Need-returns-5
+returns-5 c = ?
+
+-- src/lib.rt:94:9
+returns-6 : tie.Need-returns-6
+returns-6 c = ?
+
+-- src/lib.rt:73:1
+returns-7 : tie.Need-returns-7
+returns-7 c = ?
+
+pub may-fill-spec : {M : Type 1} → statement M
+may-fill-spec =
+    tie.close
+    (tie.spec
+    returns
+    cast-if2
+    returns-2
+    cast-if3
+    sub-if3
+    returns-3
+    is-pinned-requires
+    returns-4
+    returns-5
+    returns-6
+    returns-7)
