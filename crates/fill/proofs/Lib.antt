@@ -1,3 +1,4 @@
 pub mod Searching
 pub mod Overlaying
+pub mod Refusing
 pub mod Filling
