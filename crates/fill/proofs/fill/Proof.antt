@@ -1,3 +1,7 @@
+use denote.Ref.{now}
+use Rattle.rules.specs.Call.{fillRead}
+use Rattle.rules.proofs.Judging.{known, judge-refuses}
+use Rattle.fill.proofs.Filling.{judges-fill}
 use native.Mathlib.Omega.{arith}
 use borrow.Author.Needs.{needs}
 use Rattle.fill.proofs.fill.Statement.{statement}
@@ -21,11 +25,15 @@ enum-known-verdict-2 c = search needs
 
 -- src/lib.rt:259:32
 fill-known-requires : tie.Need-fill-known-requires
-fill-known-requires c κs = ?
+fill-known-requires c κs =
+    let a = c .before .before .before .before .before .before .before .before .args in
+    known (now (a .bytes)) (a .s) _ _ (c .before .before .before .before .before .judge .ensures) (c .before .before .verdict2 .given .1)
 
 -- src/lib.rt:243:1
 returns : tie.Need-returns
-returns c = ?
+returns c =
+    let a = c .before .before .before .before .before .before .before .args in
+    judge-refuses (fillRead (a .pin) (a .node) (a .offset) (a .fetched) (now (a .buffer))) (judges-fill (a .pin) (a .node) (a .offset) (a .fetched) (now (a .buffer))) (now (a .bytes)) (a .s) _ _ (c .before .before .before .before .judge .ensures) (c .before .verdict .given .1)
 
 -- src/lib.rt:243:1
 same-length : tie.Need-same-length

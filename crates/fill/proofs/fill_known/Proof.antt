@@ -1,3 +1,6 @@
+use denote.Ref.{now}
+use Rattle.rules.proofs.Owning.{sure}
+use Rattle.fill.proofs.Filling.{fill-refused, fits, fill-done}
 use native.Mathlib.Omega.{arith}
 use borrow.Author.Needs.{needs}
 use Rattle.fill.proofs.fill_known.Statement.{statement}
@@ -23,22 +26,31 @@ same-length c = search needs
 
 -- src/lib.rt:234:9
 returns : tie.Need-returns
-returns c = ?
+returns c =
+    let a = c .before .before .before .before .before .before .before .args in
+    fill-refused (now (a .bytes)) (a .s) _ _ _ (c .before .before .before .before .before .before .before .pre) (a .pin) (a .node) (a .offset) (a .fetched) (now (a .buffer)) _ (c .before .before .before .may-fill .ensures) _ (c .before .may .given .1)
 
 enum-told : tie.Need-enum-told
 enum-told c = search needs
 
 -- src/lib.rt:236:9
 end-of-requires : tie.Need-end-of-requires
-end-of-requires c κs = ?
+end-of-requires c κs = sure (now (c .before .before .before .before .before .before .args .bytes)) (c .before .before .before .before .before .before .args .s) _ _ _ (c .before .before .before .before .before .before .pre) .few
 
 -- src/lib.rt:237:9
 count-of-requires : tie.Need-count-of-requires
-count-of-requires c κs = ?
+count-of-requires c κs =
+    let a = c .before .before .before .before .before .before .before .args in
+    fits (now (a .bytes)) (a .s) _ _ _ (c .before .before .before .before .before .before .before .pre) (a .pin) (a .node) (a .offset) (a .fetched) (now (a .buffer)) _ (c .before .before .before .may-fill .ensures) (c .before .enum-told .given .1) .1
 
 -- src/lib.rt:238:5
 fill-bytes-requires : tie.Need-fill-bytes-requires
-fill-bytes-requires c κs = ?
+fill-bytes-requires c κs =
+    let a = c .before .before .before .before .before .before .before .before .before .args in
+    let k = sure (now (a .bytes)) (a .s) _ _ _ (c .before .before .before .before .before .before .before .before .before .pre) in
+    let n = c .before .count-of .ensures in
+    let f = fits (now (a .bytes)) (a .s) _ _ _ (c .before .before .before .before .before .before .before .before .before .pre) (a .pin) (a .node) (a .offset) (a .fetched) (now (a .buffer)) _ (c .before .before .before .before .before .may-fill .ensures) (c .before .before .before .enum-told .given .1) in
+    (k .sized, (k .few, n .1, n .2, f .0))
 
 -- src/lib.rt:216:1
 same-length-2 : tie.Need-same-length-2
@@ -46,7 +58,9 @@ same-length-2 c = search needs
 
 -- src/lib.rt:216:1
 returns-2 : tie.Need-returns-2
-returns-2 c = ?
+returns-2 c =
+    let a = c .before .before .before .before .before .before .before .before .before .before .before .before .args in
+    fill-done (now (a .bytes)) (a .s) _ _ _ (c .before .before .before .before .before .before .before .before .before .before .before .before .pre) (a .pin) (a .node) (a .offset) (a .fetched) (now (a .buffer)) _ (c .before .before .before .before .before .before .before .before .may-fill .ensures) (c .before .before .before .before .before .before .enum-told .given .1) _ _ _ (c .before .before .before .before .before .end-of .ensures) (c .before .before .before .before .count-of .ensures .0) (c .before .before .fill-bytes .ensures)
 
 pub fill-known-spec : {M : Type 1} → statement M
 fill-known-spec =
