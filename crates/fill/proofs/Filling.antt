@@ -54,7 +54,7 @@ pub judges-fill : (pin node offset fetched : ℕ) (b : List ℕ) → Judges (fil
 judges-fill pin node offset fetched b = record { reads = refl; fits = refl }
 
 module _ (r : List ℕ) (s : State) (g : Ring) (count : ℕ) (held : List Held) (k : Known r s g count held) (pin node offset fetched : ℕ) (b : List ℕ) (m : May)
-  (em : m ≡ mayOf (own (fillRead pin node offset fetched b) [] unreadable s)) where
+    (em : m ≡ mayOf (own (fillRead pin node offset fetched b) [] unreadable s)) where
   pub fill-refused : (why : Reason) → m ≡ Refused why → lentBy (refuses why) s r b ≡ outcome (fillRead pin node offset fetched b) r s
   fill-refused why e =
       sym (judge-passes (fillRead pin node offset fetched b) (judges-fill pin node offset fetched b) r s g count held k

@@ -6,9 +6,9 @@ use native.Mathlib.Nat.{add-zero, add-suc, suc-add, sub-zero, le-of-suc-le-suc}
 use native.Mathlib.Numerals.{add-one}
 use native.Mathlib.Omega.{arith}
 use borrow.Author.Tests.{lt-ltb, le-ltb}
+use borrow.Rule.Slice.PartMut.{midOf, postOf, putMid, post-is, mid-len}
 use lib.ListN.{length, take, drop, getD, set, replicate, length-set, length-append, length-drop}
 use lib.Seq.{take-suc, take-at, take-length, drop-at, drop-cons, drop-length, set-at, getD-at, length-take-le}
-use borrow.Rule.Slice.PartMut.{midOf, postOf, putMid, post-is, mid-len}
 use Rattle.layout.specs.Bytes.{bytesAt}
 use Rattle.walk.specs.Walk.{Write}
 use Rattle.shore.specs.Cover.{byteOver}
@@ -26,7 +26,7 @@ blank-bytes p zero = refl
 blank-bytes p (suc n) = ap (_∷_ 0) (blank-bytes (suc p) n)
 
 module _ (ws : List Write) where
-  pub over-length : (p : ℕ) (bs : List ℕ) → length (overlaid ws p bs) ≡ length bs
+  over-length : (p : ℕ) (bs : List ℕ) → length (overlaid ws p bs) ≡ length bs
   unfolding overlaid
   over-length p [] = refl
   over-length p (b ∷ bs) = ap suc (over-length (suc p) bs)
@@ -52,7 +52,7 @@ module _ (ws : List Write) where
       long : length (overlaid ws from (take k out₀)) ≡ k
       long = over-length from (take k out₀) ∙ length-take-le k out₀ (o .upto)
 
-      pub lay-read : k < length out₀ → getD out k 0 ≡ getD out₀ k 0
+      lay-read : k < length out₀ → getD out k 0 ≡ getD out₀ k 0
       lay-read h = rw (o .front, drop-cons out₀ k 0) (getD-at (overlaid ws from (take k out₀)) (getD out₀ k 0) (drop (suc k) out₀) 0 k long)
 
       -- b is what the search found over the byte that stood there

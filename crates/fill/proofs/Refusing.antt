@@ -83,5 +83,5 @@ module _ (s : State) (pin node offset fetched : ℕ) (b : List ℕ) where
   pub fillable : own (fillRead pin node offset fetched b) [] unreadable s ≡ none → (offset + length b ≤ fileEnd) × (fetched ≤ length b)
   fillable e =
       let k = rows-none (eqb node 0) (ltb fileEnd (offset + length b)) (not (both (ltb 0 pin) (hasPinFor pin node (s .pins)))) (pick (ltb (length b) fetched) true (ltb longestFill (length b)))
-        (sym (own-fill [] unreadable s pin node offset fetched b) ∙ e) in
+      (sym (own-fill [] unreadable s pin node offset fetched b) ∙ e) in
       (ltb-false fileEnd (offset + length b) (k .0), ltb-false (length b) fetched (pick-false _ (ltb longestFill (length b)) (k .1) .0))

@@ -235,7 +235,17 @@ fn fill_known(
     }
     let end = state::end_of(held, count, node);
     let r = count_of(n, fetched, offset, end);
-    fill_bytes(bytes, ring, held, count, node, offset as usize, fetched, r, buffer);
+    fill_bytes(
+        bytes,
+        ring,
+        held,
+        count,
+        node,
+        offset as usize,
+        fetched,
+        r,
+        buffer,
+    );
     Filled::Count(r)
 }
 

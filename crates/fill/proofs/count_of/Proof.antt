@@ -1,37 +1,31 @@
-use Rattle.fill.proofs.Filling.{count-is}
+-- `fill::count_of` meets its contract: the count is a greater and a lesser (`count-is`), and each return is one of their cases.
 use native.Mathlib.Omega.{arith}
 use borrow.Author.Needs.{needs}
+use Rattle.fill.proofs.Filling.{count-is}
 use Rattle.fill.proofs.count_of.Statement.{statement}
 use Rattle.fill.proofs.count_of.Tie as tie
-use Rattle.fill.proofs.count_of.Reads as reads
-use Rattle.fill.proofs.count_of.Lts as lts
 
--- src/lib.rt:181:9
 returns : tie.Need-returns
 returns c =
     let a = c .before .args in
     let k = count-is (a .n) (a .g) (a .offset) (a .end) in
     (omega arith, omega arith, omega arith)
 
--- src/lib.rt:183:18
 sub-reach : tie.Need-sub-reach
 sub-reach c = search needs
 
--- src/lib.rt:185:9
 returns-2 : tie.Need-returns-2
 returns-2 c =
     let a = c .before .before .args in
     let k = count-is (a .n) (a .g) (a .offset) (a .end) in
     (omega arith, omega arith, omega arith)
 
--- src/lib.rt:188:9
 returns-3 : tie.Need-returns-3
 returns-3 c =
     let a = c .before .before .before .args in
     let k = count-is (a .n) (a .g) (a .offset) (a .end) in
     (omega arith, omega arith, omega arith)
 
--- src/lib.rt:175:1
 returns-4 : tie.Need-returns-4
 returns-4 c =
     let a = c .before .before .before .args in

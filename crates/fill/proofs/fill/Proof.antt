@@ -1,45 +1,34 @@
+-- `fill::fill` meets its contract: the judge's refusal, or `fill_known`.
+use borrow.Author.Needs.{needs}
 use denote.Ref.{now}
 use Rattle.rules.specs.Call.{fillRead}
 use Rattle.rules.proofs.Judging.{known, judge-refuses}
 use Rattle.fill.proofs.Filling.{judges-fill}
-use native.Mathlib.Omega.{arith}
-use borrow.Author.Needs.{needs}
 use Rattle.fill.proofs.fill.Statement.{statement}
 use Rattle.fill.proofs.fill.Tie as tie
-use Rattle.fill.proofs.fill.Reads as reads
-use Rattle.fill.proofs.fill.Lts as lts
-use Rattle.fill.proofs.fill_known.Reads as fill-known-reads
-use Rattle.judge.proofs.judge.Reads as judge-reads
 
--- src/lib.rt:254:9
 judge-requires : tie.Need-judge-requires
 judge-requires c κs = search needs
 
--- src/lib.rt:258:26
 enum-known-verdict : tie.Need-enum-known-verdict
 enum-known-verdict c = search needs
 
--- src/lib.rt:259:23
 enum-known-verdict-2 : tie.Need-enum-known-verdict-2
 enum-known-verdict-2 c = search needs
 
--- src/lib.rt:259:32
 fill-known-requires : tie.Need-fill-known-requires
 fill-known-requires c κs =
     let a = c .before .before .before .before .before .before .before .before .args in
     known (now (a .bytes)) (a .s) _ _ (c .before .before .before .before .before .judge .ensures) (c .before .before .verdict2 .given .1)
 
--- src/lib.rt:243:1
 returns : tie.Need-returns
 returns c =
     let a = c .before .before .before .before .before .before .before .args in
     judge-refuses (fillRead (a .pin) (a .node) (a .offset) (a .fetched) (now (a .buffer))) (judges-fill (a .pin) (a .node) (a .offset) (a .fetched) (now (a .buffer))) (now (a .bytes)) (a .s) _ _ (c .before .before .before .before .judge .ensures) (c .before .verdict .given .1)
 
--- src/lib.rt:243:1
 same-length : tie.Need-same-length
 same-length c = search needs
 
--- src/lib.rt:243:1
 returns-2 : tie.Need-returns-2
 returns-2 c = search needs
 

@@ -1,56 +1,41 @@
+-- `fill::fill_bytes` meets its contract: what came back in the two lent parts, said of the whole (`parts-back`).
+use borrow.Author.Needs.{needs}
 use lib.ListN.{take}
 use Rattle.rules.specs.Fill.{writesFor}
 use Rattle.fill.proofs.Overlaying.{parts-back}
-use native.Mathlib.Omega.{arith}
-use borrow.Author.Needs.{needs}
 use Rattle.fill.proofs.fill_bytes.Statement.{statement}
 use Rattle.fill.proofs.fill_bytes.Tie as tie
-use Rattle.fill.proofs.fill_bytes.Reads as reads
-use Rattle.fill.proofs.fill_bytes.Lts as lts
-use Rattle.fill.proofs.overlay.Reads as overlay-reads
-use Rattle.fill.proofs.zero_and_overlay.Reads as zero-and-overlay-reads
 
--- src/lib.rt:209:51
 sub-overlay : tie.Need-sub-overlay
 sub-overlay c = search needs
 
--- src/lib.rt:209:51
 part-overlay-start : tie.Need-part-overlay-start
 part-overlay-start c = search needs
 
--- src/lib.rt:209:51
 part-overlay-end : tie.Need-part-overlay-end
 part-overlay-end c = search needs
 
--- src/lib.rt:209:5
 overlay-requires : tie.Need-overlay-requires
 overlay-requires c κs = search needs
 
--- src/lib.rt:210:54
 add-zero-and-overlay : tie.Need-add-zero-and-overlay
 add-zero-and-overlay c = search needs
 
--- src/lib.rt:210:64
 sub-zero-and-overlay : tie.Need-sub-zero-and-overlay
 sub-zero-and-overlay c = search needs
 
--- src/lib.rt:210:64
 part-zero-and-overlay-start : tie.Need-part-zero-and-overlay-start
 part-zero-and-overlay-start c = search needs
 
--- src/lib.rt:210:64
 part-zero-and-overlay-end : tie.Need-part-zero-and-overlay-end
 part-zero-and-overlay-end c = search needs
 
--- src/lib.rt:210:5
 zero-and-overlay-requires : tie.Need-zero-and-overlay-requires
 zero-and-overlay-requires c κs = search needs
 
--- src/lib.rt:194:1
 same-length : tie.Need-same-length
 same-length c = search needs
 
--- src/lib.rt:194:1
 returns : tie.Need-returns
 returns c =
     let a = c .before .before .before .before .before .before .before .before .before .before .args in

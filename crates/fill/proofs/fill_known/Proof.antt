@@ -1,30 +1,20 @@
+-- `fill::fill_known` meets its contract: the laws of `Filling`.
+use borrow.Author.Needs.{needs}
 use denote.Ref.{now}
 use Rattle.rules.proofs.Owning.{sure}
 use Rattle.fill.proofs.Filling.{fill-refused, fits, fill-done}
-use native.Mathlib.Omega.{arith}
-use borrow.Author.Needs.{needs}
 use Rattle.fill.proofs.fill_known.Statement.{statement}
 use Rattle.fill.proofs.fill_known.Tie as tie
-use Rattle.fill.proofs.fill_known.Reads as reads
-use Rattle.fill.proofs.fill_known.Lts as lts
-use Rattle.fill.proofs.count_of.Reads as count-of-reads
-use Rattle.fill.proofs.fill_bytes.Reads as fill-bytes-reads
-use Rattle.fill.proofs.may_fill.Reads as may-fill-reads
-use Rattle.state.proofs.end_of.Reads as end-of-reads
 
--- src/lib.rt:232:9
 may-fill-requires : tie.Need-may-fill-requires
 may-fill-requires c κs = search needs
 
--- src/lib.rt:233:25
 enum-known-may : tie.Need-enum-known-may
 enum-known-may c = search needs
 
--- src/lib.rt:234:9
 same-length : tie.Need-same-length
 same-length c = search needs
 
--- src/lib.rt:234:9
 returns : tie.Need-returns
 returns c =
     let a = c .before .before .before .before .before .before .before .args in
@@ -33,17 +23,14 @@ returns c =
 enum-told : tie.Need-enum-told
 enum-told c = search needs
 
--- src/lib.rt:236:9
 end-of-requires : tie.Need-end-of-requires
 end-of-requires c κs = sure (now (c .before .before .before .before .before .before .args .bytes)) (c .before .before .before .before .before .before .args .s) _ _ _ (c .before .before .before .before .before .before .pre) .few
 
--- src/lib.rt:237:9
 count-of-requires : tie.Need-count-of-requires
 count-of-requires c κs =
     let a = c .before .before .before .before .before .before .before .args in
     fits (now (a .bytes)) (a .s) _ _ _ (c .before .before .before .before .before .before .before .pre) (a .pin) (a .node) (a .offset) (a .fetched) (now (a .buffer)) _ (c .before .before .before .may-fill .ensures) (c .before .enum-told .given .1) .1
 
--- src/lib.rt:238:5
 fill-bytes-requires : tie.Need-fill-bytes-requires
 fill-bytes-requires c κs =
     let a = c .before .before .before .before .before .before .before .before .before .args in
@@ -52,11 +39,9 @@ fill-bytes-requires c κs =
     let f = fits (now (a .bytes)) (a .s) _ _ _ (c .before .before .before .before .before .before .before .before .before .pre) (a .pin) (a .node) (a .offset) (a .fetched) (now (a .buffer)) _ (c .before .before .before .before .before .may-fill .ensures) (c .before .before .before .enum-told .given .1) in
     (k .sized, (k .few, n .1, n .2, f .0))
 
--- src/lib.rt:216:1
 same-length-2 : tie.Need-same-length-2
 same-length-2 c = search needs
 
--- src/lib.rt:216:1
 returns-2 : tie.Need-returns-2
 returns-2 c =
     let a = c .before .before .before .before .before .before .before .before .before .before .before .before .args in

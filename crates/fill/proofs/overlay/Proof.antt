@@ -1,20 +1,17 @@
+-- `fill::overlay` meets its contract: `Laying`: the front of the part is laid over; in it `Seeking`: no write from the place on covers the byte.
 use Prim.Native.Nat.{_+_, _-_}
 use mathlib.Core.Path.{_≡_, sym, _∙_}
 use mathlib.Core.Logic.{⊎-elim}
+use native.Mathlib.Omega.{arith}
+use borrow.Author.Needs.{needs}
 use lib.ListN.{length, take, getD}
-use Rattle.shore.specs.Cover.{byteOver}
 use Rattle.state.specs.Lists.{noHeld}
+use Rattle.shore.specs.Cover.{byteOver}
 use Rattle.rules.specs.Fill.{writesFor}
 use Rattle.fill.proofs.Searching.{Seeking, seek-start, seek-none, seek-on, seek-here, over-inside}
 use Rattle.fill.proofs.Overlaying.{Laying, lay-start, lay-next, lay-done}
-use native.Mathlib.Omega.{arith}
-use borrow.Author.Needs.{needs}
 use Rattle.fill.proofs.overlay.Statement.{statement}
 use Rattle.fill.proofs.overlay.Tie as tie
-use Rattle.fill.proofs.overlay.Reads as reads
-use Rattle.fill.proofs.overlay.Lts as lts
-use Rattle.fill.proofs.is_over.Reads as is-over-reads
-use Rattle.walk.proofs.entry_byte.Reads as entry-byte-reads
 
 abbrev Inv-loop2 : tie.InvT-loop2
 Inv-loop2 bytes ring count node from out held k p i₀ i = Seeking node bytes ring p held count (getD out k 0) i
@@ -28,75 +25,58 @@ Inv-loop bytes ring count node from out₀ held k₀ out k = Laying (writesFor n
 abbrev μ-loop : tie.MeasureT-loop
 μ-loop bytes ring count node from out₀ held k₀ out k = length out₀ - k
 
--- src/lib.rt:133:5
 loop-holds : tie.Need-loop-holds Inv-loop2 μ-loop2 Inv-loop μ-loop
 loop-holds c = lay-start _ _ _
 
--- src/lib.rt:134:17
 add-p : tie.Need-add-p Inv-loop2 μ-loop2 Inv-loop μ-loop
 add-p c = omega arith
 
--- src/lib.rt:136:13
 loop2-holds : tie.Need-loop2-holds Inv-loop2 μ-loop2 Inv-loop μ-loop
 loop2-holds c = seek-start _ _ _ _ _ _ _ (omega arith)
 
--- src/lib.rt:138:23
 slice-read-byte : tie.Need-slice-read-byte Inv-loop2 μ-loop2 Inv-loop μ-loop
 slice-read-byte c = omega arith
 
--- src/lib.rt:140:13
 sub-i : tie.Need-sub-i Inv-loop2 μ-loop2 Inv-loop μ-loop
 sub-i c = omega arith
 
--- src/lib.rt:141:23
 mul-one : tie.Need-mul-one Inv-loop2 μ-loop2 Inv-loop μ-loop
 mul-one c = omega arith
 
--- src/lib.rt:141:23
 array-copy-out-one : tie.Need-array-copy-out-one Inv-loop2 μ-loop2 Inv-loop μ-loop
 array-copy-out-one c = omega arith
 
--- src/lib.rt:142:16
 is-over-requires : tie.Need-is-over-requires Inv-loop2 μ-loop2 Inv-loop μ-loop
 is-over-requires c κs = search needs
 
--- src/lib.rt:144:66
 cast-entry-byte : tie.Need-cast-entry-byte Inv-loop2 μ-loop2 Inv-loop μ-loop
 cast-entry-byte c = search needs
 
--- src/lib.rt:144:62
 sub-entry-byte : tie.Need-sub-entry-byte Inv-loop2 μ-loop2 Inv-loop μ-loop
 sub-entry-byte c =
     let a = c .before .before .before .before .before .before .before .before .before .before .before .args in
     over-inside (a .node) (a .from + c .before .before .before .before .before .before .before .before .loop .k) (getD (a .t3) (c .before .before .before .before .before .before .loop2 .i - 1) noHeld) (sym (c .before .before .before .is-over .ensures) ∙ c .before .before .if2 .taken) .0
 
--- src/lib.rt:144:23
 entry-byte-requires : tie.Need-entry-byte-requires Inv-loop2 μ-loop2 Inv-loop μ-loop
 entry-byte-requires c κs =
     let a = c .before .before .before .before .before .before .before .before .before .before .before .args in
     (c .before .before .before .before .before .before .before .before .before .before .before .pre .0, over-inside (a .node) (a .from + c .before .before .before .before .before .before .before .before .loop .k) (getD (a .t3) (c .before .before .before .before .before .before .loop2 .i - 1) noHeld) (sym (c .before .before .before .is-over .ensures) ∙ c .before .before .if2 .taken) .1)
 
--- src/lib.rt:136:13
 loop2-less : tie.Need-loop2-less Inv-loop2 μ-loop2 Inv-loop μ-loop
 loop2-less c = omega arith
 
--- src/lib.rt:136:13
 loop2-again : tie.Need-loop2-again Inv-loop2 μ-loop2 Inv-loop μ-loop
 loop2-again c = seek-on _ _ _ _ _ _ _ _ (c .before .before .before .before .loop2 .inv) (c .before .before .before .if1 .left) (sym (c .before .is-over .ensures) ∙ c .if2 .left)
 
--- src/lib.rt:147:9
 slice-write-out : tie.Need-slice-write-out Inv-loop2 μ-loop2 Inv-loop μ-loop
 slice-write-out c = omega arith
 
--- src/lib.rt:148:9
 add-k : tie.Need-add-k Inv-loop2 μ-loop2 Inv-loop μ-loop
 add-k c = omega arith
 
--- src/lib.rt:133:5
 loop-less : tie.Need-loop-less Inv-loop2 μ-loop2 Inv-loop μ-loop
 loop-less c = omega arith
 
--- src/lib.rt:133:5
 loop-again : tie.Need-loop-again Inv-loop2 μ-loop2 Inv-loop μ-loop
 loop-again c =
     let a = c .before .before .before .before .before .before .args in
@@ -106,11 +86,9 @@ loop-again c =
     ⊎-elim (λ w. w .3 ∙ seek-none _ _ _ _ _ _ _ _ (m .inv) (w .0 .taken)) (λ w. w .8 ∙ w .6 .ensures ∙ seek-here _ _ _ _ _ _ _ _ (m .inv) (w .0 .left) (sym (w .2 .ensures) ∙ w .3 .taken)) (c .if1 .came) in
     lay-next _ _ _ _ _ (l .inv) _ (omega arith) found
 
--- src/lib.rt:119:1
 same-length : tie.Need-same-length Inv-loop2 μ-loop2 Inv-loop μ-loop
 same-length c = c .before .loop .inv .same
 
--- src/lib.rt:119:1
 returns : tie.Need-returns Inv-loop2 μ-loop2 Inv-loop μ-loop
 returns c = lay-done _ _ _ _ _ (c .before .loop .inv) (omega arith)
 

@@ -1,17 +1,14 @@
+-- `fill::zero_and_overlay` meets its contract: `Taking`: the front of the part is zero; then `overlay`.
 use Prim.Native.Nat.{_-_}
 use mathlib.Core.Path.{refl, ap, _∙_}
+use native.Mathlib.Omega.{arith}
 use lib.ListN.{length, take}
 use Rattle.layout.proofs.Loops.{Taking, take-start, take-next, take-done}
 use Rattle.rules.specs.Fill.{writesFor}
 use Rattle.fill.specs.Overlay.{overlaid}
 use Rattle.fill.proofs.Overlaying.{blank, blank-bytes}
-use native.Mathlib.Omega.{arith}
-use borrow.Author.Needs.{needs}
 use Rattle.fill.proofs.zero_and_overlay.Statement.{statement}
 use Rattle.fill.proofs.zero_and_overlay.Tie as tie
-use Rattle.fill.proofs.zero_and_overlay.Reads as reads
-use Rattle.fill.proofs.zero_and_overlay.Lts as lts
-use Rattle.fill.proofs.overlay.Reads as overlay-reads
 
 abbrev Inv-loop : tie.InvT-loop
 Inv-loop bytes ring held count node from part₀ i₀ part i = Taking blank 0 part₀ part i
@@ -19,35 +16,27 @@ Inv-loop bytes ring held count node from part₀ i₀ part i = Taking blank 0 pa
 abbrev μ-loop : tie.MeasureT-loop
 μ-loop bytes ring held count node from part₀ i₀ part i = length part₀ - i
 
--- src/lib.rt:167:5
 loop-holds : tie.Need-loop-holds Inv-loop μ-loop
 loop-holds c = take-start _ _ _
 
--- src/lib.rt:168:9
 slice-write-part : tie.Need-slice-write-part Inv-loop μ-loop
 slice-write-part c = omega arith
 
--- src/lib.rt:169:9
 add-i : tie.Need-add-i Inv-loop μ-loop
 add-i c = omega arith
 
--- src/lib.rt:167:5
 loop-less : tie.Need-loop-less Inv-loop μ-loop
 loop-less c = omega arith
 
--- src/lib.rt:167:5
 loop-again : tie.Need-loop-again Inv-loop μ-loop
 loop-again c = take-next _ _ _ _ _ (c .before .loop .inv) _ (omega arith) refl
 
--- src/lib.rt:171:5
 overlay-requires : tie.Need-overlay-requires Inv-loop μ-loop
 overlay-requires c κs = (c .before .before .before .before .before .pre .0, (c .before .before .before .before .before .pre .1 .0, omega arith))
 
--- src/lib.rt:153:1
 same-length : tie.Need-same-length Inv-loop μ-loop
 same-length c = omega arith
 
--- src/lib.rt:153:1
 returns : tie.Need-returns Inv-loop μ-loop
 returns c =
     let a = c .before .before .before .before .before .before .before .before .args in
