@@ -1,4 +1,4 @@
-pub mod Searching
+pub mod Seeking
 pub mod Overlaying
 pub mod Refusing
 pub mod Filling

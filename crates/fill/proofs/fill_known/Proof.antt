@@ -1,4 +1,5 @@
 -- `fill::fill_known` meets its contract: the laws of `Filling`.
+use native.Mathlib.Omega.{arith}
 use borrow.Author.Needs.{needs}
 use denote.Ref.{now}
 use Rattle.rules.proofs.Owning.{sure}
@@ -35,9 +36,11 @@ fill-bytes-requires : tie.Need-fill-bytes-requires
 fill-bytes-requires c κs =
     let a = c .before .before .before .before .before .before .before .before .before .args in
     let k = sure (now (a .bytes)) (a .s) _ _ _ (c .before .before .before .before .before .before .before .before .before .pre) in
-    let n = c .before .count-of .ensures in
+    let l = c .before .count-of .ensures .1 in
+    let u = c .before .count-of .ensures .2 in
     let f = fits (now (a .bytes)) (a .s) _ _ _ (c .before .before .before .before .before .before .before .before .before .pre) (a .pin) (a .node) (a .offset) (a .fetched) (now (a .buffer)) _ (c .before .before .before .before .before .may-fill .ensures) (c .before .before .before .enum-told .given .1) in
-    (k .sized, (k .few, n .1, n .2, f .0))
+    let w = f .1 in
+    (k .sized, (k .few, omega arith, omega arith, f .0))
 
 same-length-2 : tie.Need-same-length-2
 same-length-2 c = search needs

@@ -8,7 +8,7 @@ use lib.ListN.{length, take, getD}
 use Rattle.state.specs.Lists.{noHeld}
 use Rattle.shore.specs.Cover.{byteOver}
 use Rattle.rules.specs.Fill.{writesFor}
-use Rattle.fill.proofs.Searching.{Seeking, seek-start, seek-none, seek-on, seek-here, over-inside}
+use Rattle.fill.proofs.Seeking.{Seeking, seek-start, seek-none, seek-on, seek-here, over-inside}
 use Rattle.fill.proofs.Overlaying.{Laying, lay-start, lay-next, lay-done}
 use Rattle.fill.proofs.overlay.Statement.{statement}
 use Rattle.fill.proofs.overlay.Tie as tie
