@@ -1,4 +1,4 @@
--- What a fill's count comes to, and each of its returns.
+-- What a fill's count comes to, and each of its returns. Document 01, "Moves", paragraph "Fill".
 use Prim.Native.Nat.{ℕ, _+_, _-_, _≤_, _<_, max, min}
 use mathlib.Core.Path.{_≡_, refl, sym, ap, _∙_}
 use mathlib.Core.List.{List, [], _∷_}

@@ -1,4 +1,4 @@
--- Bytes laid over: the loop over the bytes of a part, and the parts of a fill's buffer.
+-- Bytes laid over: the loop over the bytes of a part, and the parts of a fill's buffer. Document 01, "Moves", paragraph "Fill".
 use Prim.Native.Nat.{ℕ, zero, suc, _+_, _-_, _≤_, _<_}
 use mathlib.Core.Path.{_≡_, refl, sym, ap, _∙_}
 use mathlib.Core.List.{List, [], _∷_, _++_, append-assoc, append-nil}

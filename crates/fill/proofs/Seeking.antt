@@ -1,4 +1,5 @@
 -- The search for a byte: from the newest held write back, the first that covers the place is the newest of those that do.
+-- Document 01, "Moves", paragraph "Fill": "the search for a byte stops at the newest write that covers it".
 use Prim.Native.Nat.{ℕ, suc, _-_, _*_, _+_, _≤_, _<_}
 use mathlib.Core.Path.{_≡_, refl, sym, ap, _∙_}
 use mathlib.Core.Bool.{Bool, true, false}
