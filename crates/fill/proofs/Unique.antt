@@ -1,56 +1,14 @@
 -- No two different outcomes meet a fill's promise. Document 01, "How firmly each answer is tied down".
 use Prim.Native.Nat.{ℕ}
-use mathlib.Core.Path.{_≡_, refl, sym, _∙_, ap}
+use mathlib.Core.Path.{_≡_, sym, _∙_, ap}
 use mathlib.Core.List.{List, [], _∷_}
-use mathlib.Core.Option.{Option, none, some}
-use lib.Dec.{eqb}
-use Rattle.reason.specs.declared.Reason.{Reason}
-use Rattle.reason.specs.declared.Reason.the-variants.{NodeZero, BadLength, PastFileEnd, NoRoom, NoNumber, FlushUnderWay, NotTheFlush, Unreadable, NoSuchPin, TooManyPins, BadBuffer, StateUnfit}
-use Rattle.reason.specs.Reason.{numberOf}
-use Rattle.layout.proofs.Tests.{never}
 use Rattle.state.specs.declared.State.{State}
 use Rattle.rules.specs.Call.{fillRead}
-use Rattle.rules.specs.Refusals.{order, first}
-use Rattle.rules.specs.Outcome.{says, refuses, lentBy, outcome}
-use Rattle.rules.proofs.Order.{same-some}
+use Rattle.rules.specs.Outcome.{lentBy, outcome}
+use Rattle.rules.proofs.Saying.{refuses-one, apart, same-value}
 use Rattle.fill.specs.declared.Filled.{Filled}
 use Rattle.fill.specs.declared.Filled.the-variants.{Count, Refused}
 use Rattle.fill.specs.Answers.{saidFill}
-
--- ---- a refusal's number tells its reason; 0 is none's
-
-abbrev reasonOf : ℕ → Option Reason
-reasonOf n = first (λ why. eqb (numberOf why) n) order
-
-numbered-back : (why : Reason) → reasonOf (numberOf why) ≡ some why
-numbered-back NodeZero = refl
-numbered-back BadLength = refl
-numbered-back PastFileEnd = refl
-numbered-back NoRoom = refl
-numbered-back NoNumber = refl
-numbered-back FlushUnderWay = refl
-numbered-back NotTheFlush = refl
-numbered-back Unreadable = refl
-numbered-back NoSuchPin = refl
-numbered-back TooManyPins = refl
-numbered-back BadBuffer = refl
-numbered-back StateUnfit = refl
-
-refuses-one : (v w : Reason) → refuses v ≡ refuses w → v ≡ w
-refuses-one v w e = same-some v w (sym (numbered-back v) ∙ ap (λ x. reasonOf (x .refusal)) e ∙ numbered-back w)
-
--- an answer is no refusal
-apart {ℓ} : {A : Type ℓ} (vs : List ℕ) (w : Reason) → says vs ≡ refuses w → A
-apart vs w e =
-    let z : none ≡ some w = ap (λ x. reasonOf (x .refusal)) e ∙ numbered-back w in
-    never (cc)
-
-same-value : (m n : ℕ) → says (m ∷ []) ≡ says (n ∷ []) → m ≡ n
-same-value m n e = ap (λ x. front (x .values)) e
-  where
-    front : List ℕ → ℕ
-    front [] = 0
-    front (v ∷ vs) = v
 
 -- ---- what an answer says tells the answer
 
