@@ -6,7 +6,7 @@ use mathlib.Core.List.{List, [], _∷_, _++_, map}
 use mathlib.Core.Option.{none, some}
 use native.Mathlib.Omega.{arith}
 use borrow.Author.Tests.{eq-eqb, ne-eqb, lt-ltb, le-ltb}
-use lib.ListN.{length, take, drop, getD, length-map, length-append, length-replicate}
+use lib.ListN.{length, take, drop, getD, length-map, length-take, List·getD-append}
 use lib.Seq.{take-at}
 use lib.Dec.{eqb, ltb}
 use Rattle.reason.specs.declared.Reason.the-variants.{NodeZero, NoNumber, FlushUnderWay, BadBuffer}
@@ -22,7 +22,8 @@ use Rattle.state.specs.declared.Held.{Held}
 use Rattle.state.specs.Lists.{pick, filled, entryOf, withNext, withFlush, withHeld}
 use Rattle.state.specs.Pins.{those}
 use Rattle.state.specs.Batch.{mostBatch, isWaiting, batchOf, takenOf}
-use Rattle.state.proofs.Finding.{Each, each-at}
+use Rattle.state.proofs.Finding.{each-at, each-those, each-take, each-map}
+use Rattle.state.proofs.Loops.{filled-long}
 use Rattle.sheet.specs.declared.Made.{Made}
 use Rattle.sheet.specs.declared.Made.the-variants.{Sheet, Short}
 use Rattle.sheet.specs.Sheet.{sheetOf}
@@ -43,36 +44,6 @@ judges-start node b = record { reads = refl; fits = refl }
 
 -- ---- the batch's entries
 
-each-those : (P : Held → Type 0) (q : Held → Bool) (hs : List Held) → Each P hs → Each P (those q hs)
-each-those P q [] o = tt
-each-those P q (h ∷ hs) o = at (q h) (each-those P q hs (o .1))
-  where
-    at : (b : Bool) → Each P (those q hs) → Each P (pick b (h ∷ those q hs) (those q hs))
-    at true k = (o .0, k)
-    at false k = k
-
-each-take : (P : Held → Type 0) (m : ℕ) (hs : List Held) → Each P hs → Each P (take m hs)
-each-take P zero hs o = tt
-each-take P (suc m) [] o = tt
-each-take P (suc m) (h ∷ hs) o = (o .0, each-take P m hs (o .1))
-
-each-entries : (P : Entry → Type 0) (hs : List Held) → Each (λ h. P (h .entry)) hs → Each P (map entryOf hs)
-each-entries P [] o = tt
-each-entries P (h ∷ hs) o = (o .0, each-entries P hs (o .1))
-
-take-few : {A : Type 0} (m : ℕ) (xs : List A) → length (take m xs) ≤ m
-take-few zero xs = omega arith
-take-few (suc m) [] = omega arith
-take-few (suc m) (x ∷ xs) = let e = take-few m xs in omega arith
-
-front-get : {A : Type 0} (d : A) (xs ys : List A) (i : ℕ) → i < length xs → getD (xs ++ ys) i d ≡ getD xs i d
-front-get d [] ys i h = absurd (let k : i < 0 = h in omega arith)
-front-get d (x ∷ xs) ys zero h = refl
-front-get d (x ∷ xs) ys (suc i) h = front-get d xs ys i (omega arith)
-
-filled-long : {A : Type 0} (m : ℕ) (z : A) (xs : List A) → length xs ≤ m → length (filled m z xs) ≡ m
-filled-long m z xs h = length-append xs _ ∙ (let e = length-replicate (m - length xs) z in omega arith)
-
 module _ (r : List ℕ) (s : State) (g : Ring) (count : ℕ) (held : List Held) (k : Known r s g count held) (node : ℕ) where
   abbrev hs : List Held
   hs = take count held
@@ -86,7 +57,7 @@ module _ (r : List ℕ) (s : State) (g : Ring) (count : ℕ) (held : List Held) 
 
     few : x .count ≤ mostBatch
     unfolding batchOf
-    few = let c = batch-counted in let f = take-few mostBatch (those (isWaiting node) hs) in omega arith
+    few = let c = batch-counted in let f = length-take mostBatch (those (isWaiting node) hs) in omega arith
 
     entries-long : length (map entryOf (batchOf node hs)) ≡ x .count
     entries-long = length-map (batchOf node hs) entryOf ∙ sym batch-counted
@@ -102,9 +73,9 @@ module _ (r : List ℕ) (s : State) (g : Ring) (count : ℕ) (held : List Held) 
     unfolding batchOf
     one i h =
         let l = entries-long in
-        let o = each-entries (InRing (g .n)) (batchOf node hs) (each-take _ mostBatch (those (isWaiting node) hs) (each-those _ (isWaiting node) hs (sure r s g count held k .inside))) in
+        let o = each-map (InRing (g .n)) entryOf (batchOf node hs) (each-take _ mostBatch (those (isWaiting node) hs) (each-those _ (isWaiting node) hs (sure r s g count held k .inside))) in
         let w : getD (x .entries) i noEntry ≡ getD (map entryOf (batchOf node hs)) i noEntry =
-        ap (λ es. getD es i noEntry) listed-entries ∙ front-get noEntry (map entryOf (batchOf node hs)) _ i (omega arith) in
+        ap (λ es. getD es i noEntry) listed-entries ∙ List·getD-append (map entryOf (batchOf node hs)) _ noEntry i (omega arith) in
         rw w (each-at (InRing (g .n)) noEntry (map entryOf (batchOf node hs)) i o (omega arith))
 
     pub batch-laid : Laid (g .n) (x .entries) (x .count)

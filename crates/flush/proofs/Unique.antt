@@ -37,6 +37,8 @@ module _ (c : Call) (r : List ℕ) (s : State) where
 
   pub start-unique : (o o′ : FlushOut) (q q′ b b′ : List ℕ) → MeetsStart o q b → MeetsStart o′ q′ b′ → (o ≡ o′) × (q ≡ q′) × (b ≡ b′)
   start-unique o o′ q q′ b b′ e e′ =
-      let w = e ∙ sym e′ in
-      (same-out (o .state) (o′ .state) (o .answer) (o′ .answer) (ap (λ x. x .state) w) (start-one (o .answer) (o′ .answer) (ap (λ x. x .said) w)),
-        ap (λ x. x .ring) w, ap (λ x. x .buffer) w)
+      let w = e ∙ sym e′ in (
+        same-out (o .state) (o′ .state) (o .answer) (o′ .answer) (ap (λ x. x .state) w) (start-one (o .answer) (o′ .answer) (ap (λ x. x .said) w)),
+        ap (λ x. x .ring) w,
+        ap (λ x. x .buffer) w,
+      )

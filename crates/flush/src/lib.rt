@@ -67,15 +67,8 @@ fn joins(held: Held, node: u32, many: usize) -> bool
 fn no_entries() -> [Entry; BATCH]
     ensures { λ r. ⌜ r ≡ replicate mostBatch noEntry ⌝ }
 {
-    [Entry {
-        number: 0,
-        node: 0,
-        handle: 0,
-        offset: 0,
-        length: 0,
-        zero: 0,
-        slot: 0,
-    }; BATCH]
+    let entry = walk::no_entry();
+    [entry; BATCH]
 }
 
 // The node's oldest 32 Unflushed writes, or all if fewer, are taken.

@@ -93,18 +93,8 @@ fn list_fits(
 fn none_held() -> [Held; Ring::ENTRIES]
     ensures { λ r. ⌜ r ≡ replicate mostEntries noHeld ⌝ }
 {
-    [Held {
-        entry: Entry {
-            number: 0,
-            node: 0,
-            handle: 0,
-            offset: 0,
-            length: 0,
-            zero: 0,
-            slot: 0,
-        },
-        phase: 0,
-    }; Ring::ENTRIES]
+    let entry = walk::no_entry();
+    [Held { entry, phase: 0 }; Ring::ENTRIES]
 }
 
 // The entries beside their states.

@@ -2,7 +2,7 @@
 use Prim.Native.Nat.{ℕ, zero, suc, _≤_, _<_}
 use mathlib.Core.Path.{_≡_, refl, sym, _∙_, ap}
 use mathlib.Core.Bool.{Bool, true, false, not}
-use mathlib.Core.List.{List, [], _∷_}
+use mathlib.Core.List.{List, [], _∷_, map}
 use mathlib.Core.Logic.{_⊎_, inl, inr}
 use mathlib.Core.Option.{Option, none, some}
 use native.Mathlib.Omega.{arith}
@@ -16,7 +16,7 @@ use Rattle.layout.proofs.Tests.{never, both-left, both-right, lt-or-le}
 use Rattle.state.proofs.Bools.{both-known, both-swap}
 use Rattle.state.specs.declared.Held.{Held}
 use Rattle.state.specs.declared.Query.{Query}
-use Rattle.state.specs.Lists.{any, all, placeOf, unflushed, inFlight, gone, noHeld, phaseFits, RisingTo}
+use Rattle.state.specs.Lists.{pick, any, all, placeOf, unflushed, inFlight, gone, noHeld, phaseFits, RisingTo}
 use Rattle.state.specs.Pins.{reaches, waitsIn, those, lower, lowest, valueOr}
 use Rattle.state.specs.Asks.{waitsFor, seeks}
 use Rattle.state.proofs.Loops.{any-found, any-none}
@@ -38,6 +38,24 @@ each-both P Q (x ∷ xs) o u = ((o .0, u .0), each-both P Q xs (o .1) (u .1))
 pub each-true : {A : Type 0} (p : A → Bool) (xs : List A) → all p xs ≡ true → Each (λ x. p x ≡ true) xs
 each-true p [] e = tt
 each-true p (x ∷ xs) e = (both-left _ _ e, each-true p xs (both-right (p x) _ e))
+
+-- of some of them, and of what is made of them
+pub each-those : (P : Held → Type 0) (q : Held → Bool) (hs : List Held) → Each P hs → Each P (those q hs)
+each-those P q [] o = tt
+each-those P q (h ∷ hs) o = at (q h) (each-those P q hs (o .1))
+  where
+    at : (b : Bool) → Each P (those q hs) → Each P (pick b (h ∷ those q hs) (those q hs))
+    at true k = (o .0, k)
+    at false k = k
+
+pub each-take : {A : Type 0} (P : A → Type 0) (m : ℕ) (xs : List A) → Each P xs → Each P (take m xs)
+each-take P zero xs o = tt
+each-take P (suc m) [] o = tt
+each-take P (suc m) (x ∷ xs) o = (o .0, each-take P m xs (o .1))
+
+pub each-map : {A B : Type 0} (P : B → Type 0) (f : A → B) (xs : List A) → Each (λ x. P (f x)) xs → Each P (map f xs)
+each-map P f [] o = tt
+each-map P f (x ∷ xs) o = (o .0, each-map P f xs (o .1))
 
 place-each : {A : Type 0} (p q : A → Bool) (xs : List A) → Each (λ x. p x ≡ q x) xs → placeOf p xs ≡ placeOf q xs
 place-each p q [] o = refl

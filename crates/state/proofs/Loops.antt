@@ -5,7 +5,7 @@ use mathlib.Core.Bool.{Bool, true, false}
 use mathlib.Core.List.{List, [], _∷_, _++_, map, map-append, append-assoc}
 use native.Mathlib.Omega.{arith}
 use native.Mathlib.Numerals.{add-one}
-use lib.ListN.{length, take, drop, getD, set, replicate, length-map, length-append}
+use lib.ListN.{length, take, drop, getD, set, replicate, length-map, length-append, length-replicate}
 use lib.Seq.{slice, slice-cons, slice-empty, length-slice, length-take-le, take-all, take-suc, drop-append-le, drop-cons, getD-at, set-at}
 use Rattle.state.specs.Lists.{any, placeOf, carry, filled}
 
@@ -130,6 +130,9 @@ fill-more m z xs k v e h =
     let a : m - length xs ≡ suc (m - suc (length xs)) = omega arith in
     let q : length (xs ++ v ∷ []) ≡ suc (length xs) = simp (length-append, add-one) in
     rw (a, q, set-at xs z (replicate (m - suc (length xs)) z) v k e, append-assoc)
+
+pub filled-long : {A : Type 0} (m : ℕ) (z : A) (xs : List A) → length xs ≤ m → length (filled m z xs) ≡ m
+filled-long m z xs h = length-append xs (replicate (m - length xs) z) ∙ (let e = length-replicate (m - length xs) z in omega arith)
 
 -- one more of a part of a list
 pub slice-more : {A : Type 0} (f i : ℕ) (l : List A) (d : A) → f ≤ i → i < length l → slice f (i + 1) l ≡ slice f i l ++ getD l i d ∷ []

@@ -201,10 +201,11 @@ pub fn step_at(bytes: &[u8], ring: Ring, at: Cursor) -> Step
     Step::Found(entry)
 }
 
-fn no_entries() -> [Entry; Ring::ENTRIES]
-    ensures { λ r. ⌜ r ≡ replicate mostEntries noEntry ⌝ }
+// What stands where there is no entry.
+pub fn no_entry() -> Entry
+    ensures { λ r. ⌜ r ≡ noEntry ⌝ }
 {
-    [Entry {
+    Entry {
         number: 0,
         node: 0,
         handle: 0,
@@ -212,7 +213,14 @@ fn no_entries() -> [Entry; Ring::ENTRIES]
         length: 0,
         zero: 0,
         slot: 0,
-    }; Ring::ENTRIES]
+    }
+}
+
+fn no_entries() -> [Entry; Ring::ENTRIES]
+    ensures { λ r. ⌜ r ≡ replicate mostEntries noEntry ⌝ }
+{
+    let entry = no_entry();
+    [entry; Ring::ENTRIES]
 }
 
 // The answer for bytes that are no ring.

@@ -1,0 +1,5 @@
+pub mod Seeking
+pub mod Overlaying
+pub mod Refusing
+pub mod Filling
+pub mod Unique

@@ -1,0 +1,59 @@
+-- `fill::fill_bytes` meets its contract: what came back in the two lent parts, said of the whole (`parts-back`).
+use borrow.Author.Needs.{needs}
+use lib.ListN.{take}
+use Rattle.rules.specs.Fill.{writesFor}
+use Rattle.fill.proofs.Overlaying.{parts-back}
+use Rattle.fill.proofs.fill_bytes.Statement.{statement}
+use Rattle.fill.proofs.fill_bytes.Tie as tie
+
+sub-overlay : tie.Need-sub-overlay
+sub-overlay c = search needs
+
+part-overlay-start : tie.Need-part-overlay-start
+part-overlay-start c = search needs
+
+part-overlay-end : tie.Need-part-overlay-end
+part-overlay-end c = search needs
+
+overlay-requires : tie.Need-overlay-requires
+overlay-requires c κs = search needs
+
+add-zero-and-overlay : tie.Need-add-zero-and-overlay
+add-zero-and-overlay c = search needs
+
+sub-zero-and-overlay : tie.Need-sub-zero-and-overlay
+sub-zero-and-overlay c = search needs
+
+part-zero-and-overlay-start : tie.Need-part-zero-and-overlay-start
+part-zero-and-overlay-start c = search needs
+
+part-zero-and-overlay-end : tie.Need-part-zero-and-overlay-end
+part-zero-and-overlay-end c = search needs
+
+zero-and-overlay-requires : tie.Need-zero-and-overlay-requires
+zero-and-overlay-requires c κs = search needs
+
+same-length : tie.Need-same-length
+same-length c = search needs
+
+returns : tie.Need-returns
+returns c =
+    let a = c .before .before .before .before .before .before .before .before .before .before .args in
+    let p = c .before .before .before .before .before .before .before .before .before .before .pre .1 in
+    parts-back (writesFor (a .node) (a .bytes .now) (a .ring) (take (a .count) (a .held))) (a .from) (a .g) (a .r) (a .buffer .now) (p .1) (p .2) _ _ (c .before .before .before .before .before .before .overlay .ensures) (c .before .before .zero-and-overlay .ensures)
+
+pub fill-bytes-spec : {M : Type 1} → statement M
+fill-bytes-spec =
+    tie.close
+    (tie.spec
+    sub-overlay
+    part-overlay-start
+    part-overlay-end
+    overlay-requires
+    add-zero-and-overlay
+    sub-zero-and-overlay
+    part-zero-and-overlay-start
+    part-zero-and-overlay-end
+    zero-and-overlay-requires
+    same-length
+    returns)
