@@ -1,3 +1,6 @@
 pub mod Shores
 pub mod Seeing
 pub mod Pinning
+pub mod Agreeing
+pub mod Changing
+pub mod Writing

@@ -67,6 +67,10 @@ module _ (s : State) (hs : List Held) where
   relisted : listed (withHeld s hs) ≡ map listedOf hs
   relisted = take-at (map listedOf hs) _ (length hs) (length-map hs listedOf)
 
+  -- what is listed anew is held as it was
+  pub held-again : holding (map entryOf hs) (listed (withHeld s hs)) ≡ hs
+  held-again = ap (holding (map entryOf hs)) relisted ∙ holding-of hs
+
   pub fit-of : HeldFit (s .next) (s .flush) (s .pins) hs → IsFit (map entryOf hs) (withHeld s hs)
   fit-of f =
       record {
@@ -74,7 +78,7 @@ module _ (s : State) (hs : List Held) where
         list = ap (listFits (s .next) (map entryOf hs)) relisted ∙ list-of (s .next) hs (f .numbers) (f .phases);
         next = f .bounds;
         pins = f .pins;
-        held = ap (heldFits (withHeld s hs)) (ap (holding (map entryOf hs)) relisted ∙ holding-of hs) ∙ both-intro _ _ (f .order) (both-intro _ _ (f .flight) (f .head));
+        held = ap (heldFits (withHeld s hs)) held-again ∙ both-intro _ _ (f .order) (both-intro _ _ (f .flight) (f .head));
       }
 
 pub fit-back : (es : List Entry) (s : State) → all phaseFits (holding es (listed s)) ≡ true → IsFit es s → HeldFit (s .next) (s .flush) (s .pins) (holding es (listed s))

@@ -54,7 +54,7 @@ module _ (r : List ℕ) (s : State) (k : Stands r s) where
   abbrev hs : List Held
   hs = holding (k .entries) (listed s)
 
-  hs-entries : map entryOf (holding (k .entries) (listed s)) ≡ k .entries
+  pub hs-entries : map entryOf (holding (k .entries) (listed s)) ≡ k .entries
   hs-entries = holding-entries (k .entries) (listed s) (list-length (s .next) (k .entries) (listed s) (k .fit .list))
 
   hs-fit : HeldFit (s .next) (s .flush) (s .pins) (holding (k .entries) (listed s))
@@ -149,7 +149,7 @@ module _ (r : List ℕ) (s : State) (k : Stands r s) where
     bounds : (s .flush < s .next) × (s .next ≤ numberLimit)
     bounds = next-facts (s .next) (s .flush) (k .fit .next)
 
-    storable : Storable (k .ring) (k .entries) (newEntry (k .ring) (s .next) c) (c .bytes)
+    pub storable : Storable (k .ring) (k .entries) (newEntry (k .ring) (s .next) c) (c .bytes)
     storable =
         let b = bounds in
         let lo = b .0 in

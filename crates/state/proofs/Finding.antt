@@ -2,7 +2,7 @@
 use Prim.Native.Nat.{ℕ, zero, suc, _≤_, _<_}
 use mathlib.Core.Path.{_≡_, refl, sym, _∙_, ap}
 use mathlib.Core.Bool.{Bool, true, false, not}
-use mathlib.Core.List.{List, [], _∷_, map}
+use mathlib.Core.List.{List, [], _∷_, _++_, map}
 use mathlib.Core.Logic.{_⊎_, inl, inr}
 use mathlib.Core.Option.{Option, none, some}
 use native.Mathlib.Omega.{arith}
@@ -56,6 +56,10 @@ each-take P (suc m) (x ∷ xs) o = (o .0, each-take P m xs (o .1))
 pub each-map : {A B : Type 0} (P : B → Type 0) (f : A → B) (xs : List A) → Each (λ x. P (f x)) xs → Each P (map f xs)
 each-map P f [] o = tt
 each-map P f (x ∷ xs) o = (o .0, each-map P f xs (o .1))
+
+pub each-join : {A : Type 0} (P : A → Type 0) (xs ys : List A) → Each P xs → Each P ys → Each P (xs ++ ys)
+each-join P [] ys o u = u
+each-join P (x ∷ xs) ys o u = (o .0, each-join P xs ys (o .1) u)
 
 place-each : {A : Type 0} (p q : A → Bool) (xs : List A) → Each (λ x. p x ≡ q x) xs → placeOf p xs ≡ placeOf q xs
 place-each p q [] o = refl
