@@ -4,3 +4,5 @@ pub mod Pinning
 pub mod Agreeing
 pub mod Changing
 pub mod Writing
+pub mod Leaving
+pub mod Unpinning

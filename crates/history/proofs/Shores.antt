@@ -59,6 +59,26 @@ waiting good n ws = keep (waits good n) ws
 abbrev pub sure : List ℕ → ℕ → List Write → List Write
 sure good n ws = keep (λ w. both (isOf n w) (among (w .number) good)) ws
 
+-- where none is good, all wait
+all-wait : (n : ℕ) (ws : List Write) → waiting [] n ws ≡ ofNode n ws
+all-wait n ws = keep-same (waits [] n) (isOf n) ws (each ws)
+  where
+    each : (vs : List Write) → Each (λ w. both (isOf n w) true ≡ isOf n w) vs
+    each [] = tt
+    each (v ∷ vs) = (both-yes (isOf n v), each vs)
+
+-- and of those that are good none does
+none-wait : (good : List ℕ) (n : ℕ) (ws : List Write) → Each (λ w. among (w .number) good ≡ true) ws → waiting good n ws ≡ []
+none-wait good n ws o = keep-none (waits good n) ws (each ws o)
+  where
+    each : (vs : List Write) → Each (λ w. among (w .number) good ≡ true) vs → Each (λ w. waits good n w ≡ false) vs
+    each [] o = tt
+    each (v ∷ vs) o = (rw (o .0) (both-no (isOf n v)), each vs (o .1))
+
+-- so what waits is the same when they have left
+pub wait-same : (good : List ℕ) (n : ℕ) (gone ws : List Write) → Each (λ w. among (w .number) good ≡ true) gone → waiting good n (gone ++ ws) ≡ waiting good n ws
+wait-same good n gone ws o = keep-append (waits good n) gone ws ∙ ap (_++ waiting good n ws) (none-wait good n gone o)
+
 -- "for no node does a Flushed write follow one that isn't"
 abbrev pub Parted : List ℕ → List Write → Type 0
 Parted good ws = (n : ℕ) → ofNode n ws ≡ sure good n ws ++ waiting good n ws
@@ -84,20 +104,7 @@ module _ (files shore : ℕ → List ℕ) (accepted held : List Write) (good : L
 
   -- a restart: everything that is held waits again
   pub shore-restarts : Parted good held → OnShore files shore accepted held []
-  shore-restarts p = record { sends = λ n. ap (λ ws. lay (shore n) (putsAll ws)) (all-wait n) ∙ nothing-lost p n; has = k .has }
-    where
-      all-wait : (n : ℕ) → waiting [] n held ≡ ofNode n held
-      all-wait n = go held
-        where
-          go : (ws : List Write) → waiting [] n ws ≡ ofNode n ws
-          go ws = keep-same (waits [] n) (isOf n) ws (each ws)
-            where
-              each : (vs : List Write) → Each (λ w. both (isOf n w) true ≡ isOf n w) vs
-              each [] = tt
-              each (v ∷ vs) = (yes (isOf n v), each vs)
-                where
-                  yes : (b : Bool) → both b true ≡ b
-                  yes b = both-yes b
+  shore-restarts p = record { sends = λ n. ap (λ ws. lay (shore n) (putsAll ws)) (all-wait n held) ∙ nothing-lost p n; has = k .has }
 
   -- a write is accepted
   module _ (w : Write) (new : among (w .number) good ≡ false) where
@@ -135,16 +142,9 @@ module _ (files shore : ℕ → List ℕ) (accepted held : List Write) (good : L
 
   -- writes that are good leave from the front
   module _ (gone held′ : List Write) (e : held ≡ gone ++ held′) (sureGone : Each (λ w. among (w .number) good ≡ true) gone) where
-    none-wait : (n : ℕ) → waiting good n gone ≡ []
-    none-wait n = keep-none (waits good n) gone (each gone sureGone)
-      where
-        each : (ws : List Write) → Each (λ w. among (w .number) good ≡ true) ws → Each (λ w. waits good n w ≡ false) ws
-        each [] o = tt
-        each (w ∷ ws) o = (rw (o .0) (both-no (isOf n w)), each ws (o .1))
-
     pub shore-leaves : OnShore files shore accepted held′ good
     shore-leaves = record {
-      sends = λ n. ap (λ ws. lay (shore n) (putsAll ws)) (sym (ap (waiting good n) e ∙ keep-append (waits good n) gone held′ ∙ ap (_++ waiting good n held′) (none-wait n))) ∙ k .sends n;
+      sends = λ n. ap (λ ws. lay (shore n) (putsAll ws)) (sym (ap (waiting good n) e ∙ wait-same good n gone held′ sureGone)) ∙ k .sends n;
       has = λ n.
           has-end (fileOf files accepted n) (putsAll (ofNode n gone)) (putsAll (ofNode n held′))
           (ap (lay (fileOf files accepted n)) (sym (ap (λ ws. putsAll (ofNode n ws)) e ∙ ap putsAll (keep-append (isOf n) gone held′) ∙ puts-append (ofNode n gone) (ofNode n held′))) ∙ k .has n);

@@ -57,7 +57,7 @@ module _ (r : List ℕ) (s : State) (k : Stands r s) where
   pub hs-entries : map entryOf (holding (k .entries) (listed s)) ≡ k .entries
   hs-entries = holding-entries (k .entries) (listed s) (list-length (s .next) (k .entries) (listed s) (k .fit .list))
 
-  hs-fit : HeldFit (s .next) (s .flush) (s .pins) (holding (k .entries) (listed s))
+  pub hs-fit : HeldFit (s .next) (s .flush) (s .pins) (holding (k .entries) (listed s))
   hs-fit = fit-back (k .entries) s (holding-phases (s .next) (k .entries) (listed s) (k .fit .list)) (k .fit)
 
   -- a number is taken, and perhaps a pin: ring and list stay

@@ -61,6 +61,10 @@ pub each-join : {A : Type 0} (P : A → Type 0) (xs ys : List A) → Each P xs �
 each-join P [] ys o u = u
 each-join P (x ∷ xs) ys o u = (o .0, each-join P xs ys (o .1) u)
 
+pub each-right : {A : Type 0} (P : A → Type 0) (xs ys : List A) → Each P (xs ++ ys) → Each P ys
+each-right P [] ys o = o
+each-right P (x ∷ xs) ys o = each-right P xs ys (o .1)
+
 place-each : {A : Type 0} (p q : A → Bool) (xs : List A) → Each (λ x. p x ≡ q x) xs → placeOf p xs ≡ placeOf q xs
 place-each p q [] o = refl
 place-each p q (x ∷ xs) o = rw (o .0, place-each p q xs (o .1))
