@@ -24,7 +24,7 @@ use Rattle.history.proofs.Seeing.{seen, goes, restOf, goneOf, gone-rest
 use Rattle.history.proofs.Pinning.{PinsAre, pins-keep}
 use Rattle.history.proofs.Changing.{holds-as}
 
-seen-entries : (good batch : List ℕ) (es : List Entry) → map entryOf (map (seen good batch) es) ≡ es
+pub seen-entries : (good batch : List ℕ) (es : List Entry) → map entryOf (map (seen good batch) es) ≡ es
 seen-entries good batch [] = refl
 seen-entries good batch (e ∷ es) = ap (_∷_ e) (seen-entries good batch es)
 
