@@ -6,5 +6,5 @@ pub mod Changing
 pub mod Writing
 pub mod Leaving
 pub mod Unpinning
-pub mod Releasing
 pub mod Reported
+pub mod Releasing

@@ -21,7 +21,7 @@ use Rattle.state.specs.Moves.{good, bad, reported}
 use Rattle.state.specs.Pins.{staying, slotsLeft, pinPlace}
 use Rattle.state.proofs.Finding.{Each, each-right, each-join}
 use Rattle.judge.specs.Fits.{pinsDiffer, pinsFit}
-use Rattle.sheet.specs.Sheet.{sheetOf}
+use Rattle.sheet.specs.Sheet.{putsIn}
 use Rattle.rules.specs.Call.{Call, unpins, reports}
 use Rattle.rules.proofs.Fit.{held-again}
 use Rattle.rules.proofs.Standing.{Stands, stands-unpin, stands-good, stands-bad}
@@ -32,6 +32,7 @@ use Rattle.history.proofs.Pinning.{PinsAre, pins-removed}
 use Rattle.history.proofs.Shores.{OnShore, shore-leaves, shore-good, waiting, wait-same}
 use Rattle.history.proofs.Agreeing.{Agrees, SheetOut, OutFits}
 use Rattle.history.proofs.Changing.{standsAs}
+use Rattle.history.proofs.Reported.{batch-stands, rest-waits, others-wait}
 use Rattle.history.proofs.Leaving as left
 
 module _ (files : ℕ → List ℕ) (W : World) (t : Tale) (k : Agrees files W t) where
@@ -137,3 +138,44 @@ module _ (files : ℕ → List ℕ) (W : World) (t : Tale) (k : Agrees files W t
         told-bad =
             ap (λ xs. holding xs (listed (withHeld (withFlush s 0) (map (reported bad) hs)))) (sym (ap (map entryOf) moved ∙ left.seen-entries (t .good) [] es))
             ∙ held-again (withFlush s 0) (map (reported bad) hs) ∙ moved
+
+    -- good: the batch is good, and what is due leaves
+    abbrev all-good : List ℕ
+    all-good = t .good ++ numbersOf (t .batch)
+
+    abbrev s₀ : State
+    s₀ = withFlush s 0
+
+    abbrev hs₀ : List Held
+    hs₀ = map (reported good) hs
+
+    moved-good : hs₀ ≡ map (seen all-good []) es
+    moved-good = ap (map (reported good)) (k .told) ∙ reported-good-seen (t .good) (numbersOf (t .batch)) es
+
+    abbrev went : List Write
+    went = map (writeOf f) (goneOf (goes f all-good (t .live)) es)
+
+    went-split : t .held ≡ went ++ leave all-good (t .live) (t .held)
+    went-split =
+        sym (k .written) ∙ left.past-split r (k .stands .ring) es (k .stands .reading) all-good [] hs₀ moved-good s₀ (t .live) (k .pinned)
+        ∙ ap (λ ws. went ++ leave all-good (t .live) ws) (k .written)
+
+    pub agrees-good : (c : Call) → c .good ≡ true → ((k : ℕ) → k < length (putsIn sheet) → among k (t .landed) ≡ true)
+        → Agrees files (record { ring = headMoved r (slotAfter (k .stands .ring) (slotsLeft (s .pins) hs₀)); state = withHeld s₀ (staying (s .pins) hs₀); shore = W .shore; out = none }) (tellBy reports c [] t)
+    agrees-good c z whole = rw z (record {
+      stands = standsAs _ _ (shrunk (k .stands .ring) (slotsUsed (goneOf (goes f all-good (t .live)) es))) (restOf (goes f all-good (t .live)) es)
+          (left.past-reads r (k .stands .ring) es (k .stands .reading) all-good [] hs₀ moved-good s₀ (t .live) (k .pinned)) (stands-good r s (k .stands));
+      written = left.past-holds r (k .stands .ring) es (k .stands .reading) all-good [] hs₀ moved-good s₀ (t .live) (k .pinned) ∙ ap (leave all-good (t .live)) (k .written);
+      told = left.past-told r (k .stands .ring) es (k .stands .reading) all-good [] hs₀ moved-good s₀ (t .live) (k .pinned);
+      pinned = k .pinned;
+      below-good = each-join _ (t .good) (numbersOf (t .batch)) (k .below-good) (k .below-batch);
+      below-batch = tt;
+      on-shore =
+          shore-leaves files (W .shore) (t .accepted) (t .held) all-good
+          (shore-good files (W .shore) (t .accepted) (t .held) (t .good) (k .on-shore) (o .node) (t .batch) all-good
+          (o .front ∙ ap (_++_ (t .batch)) (sym (rest-waits sheet (W .shore) t o))) (others-wait sheet (W .shore) t o) (batch-stands sheet (W .shore) t o whole))
+          went (leave all-good (t .live) (t .held)) went-split
+          (left.past-good r (k .stands .ring) es (k .stands .reading) all-good [] hs₀ moved-good s₀ (t .live) (k .pinned));
+      flying = refl;
+      out-fits = refl;
+    })
