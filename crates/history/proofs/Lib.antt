@@ -8,3 +8,7 @@ pub mod Leaving
 pub mod Unpinning
 pub mod Reported
 pub mod Releasing
+pub mod Rising
+pub mod Starting
+pub mod Restarting
+pub mod Landing

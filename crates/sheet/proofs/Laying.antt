@@ -1,5 +1,5 @@
 -- A sheet read back from its bytes and laid on any file gives what the batch laid in number order gives.
-use Prim.Native.Nat.{ℕ, _+_, _-_, _≤_, _<_}
+use Prim.Native.Nat.{ℕ, zero, suc, _+_, _-_, _≤_, _<_}
 use native.Mathlib.Omega.{arith}
 use mathlib.Core.Path.{_≡_, refl, sym, ap, _∙_}
 use mathlib.Core.Bool.{Bool, true, false}
@@ -16,19 +16,19 @@ use Rattle.walk.specs.Walk.{Write}
 use Rattle.state.specs.Lists.{pick, any, all}
 use Rattle.state.proofs.Bools.{both-no, yes-both}
 use Rattle.state.proofs.Pairs.{any-append}
-use Rattle.state.proofs.Finding.{Each}
+use Rattle.state.proofs.Finding.{Each, each-join}
 use Rattle.shore.specs.File.{Put, lay, puts, putsAll}
 use Rattle.shore.specs.Cover.{spans, covers}
 use Rattle.shore.proofs.Files.{look, touches, look-append, touched-settles, alike, alike-lay}
 use Rattle.shore.proofs.Covering.{spans-in, spans-before, spans-after, spans-out, look-puts, touch-puts, look-all, touch-all}
 use Rattle.sheet.specs.declared.Piece.{Piece}
-use Rattle.sheet.specs.Sheet.{byteOf, keyOf, endOf, sheetBy, sheetOf, putsIn}
+use Rattle.sheet.specs.Sheet.{byteOf, keyOf, endOf, piecesOf, sheetBy, sheetOf, nodeIn, putsIn}
 use Rattle.sheet.specs.Places.{grow, inOrder}
 use Rattle.sheet.proofs.Right.{AreThose, right}
 use Rattle.sheet.proofs.Cutting.{pieces-grown}
 use Rattle.sheet.proofs.Collecting.{order-length}
 use Rattle.sheet.proofs.Covered.{endsBy, end-within, grow-few, covered-key, bare-key, covered-below}
-use Rattle.sheet.proofs.Reading.{Fits, putsFor, read-back}
+use Rattle.sheet.proofs.Reading.{wordEnd, Fits, putsFor, read-node, read-back}
 
 -- ---- what pieces lay, at a place
 
@@ -171,3 +171,21 @@ module _ (ws : List Write) where
     sheet-lays =
         alike-lay (putsIn (sheetOf node ws ++ tail)) (putsAll ws)
         (alike (putsIn (sheetOf node ws ++ tail)) (putsAll ws) (λ i. sheet-touches i ∙ sym (touch-all ws i)) sheet-looks)
+
+    -- each put has the byte of the newest write at its place
+    puts-bytes : (p n : ℕ) → Each (λ q. q .byte ≡ byteOf ws (q .place)) (puts p (bytesAt (byteOf ws) p n))
+    unfolding puts bytesAt
+    puts-bytes p zero = tt
+    puts-bytes p (suc n) = (refl, puts-bytes (suc p) n)
+
+    for-bytes : (qs : List Piece) → Each (λ q. q .byte ≡ byteOf ws (q .place)) (putsFor (byteOf ws) qs)
+    unfolding putsFor
+    for-bytes [] = tt
+    for-bytes (q ∷ qs) = each-join _ (puts (q .start) (bytesAt (byteOf ws) (q .start) (q .size))) (putsFor (byteOf ws) qs) (puts-bytes (q .start) (q .size)) (for-bytes qs)
+
+    pub sheet-bytes : Each (λ q. q .byte ≡ byteOf ws (q .place)) (putsIn (sheetOf node ws ++ tail))
+    sheet-bytes = rw sheet-puts (for-bytes (inOrder (grow (keyOf ws) (endOf ws))))
+
+    pub sheet-node : node < wordEnd → nodeIn (sheetOf node ws ++ tail) ≡ node
+    unfolding sheetOf
+    sheet-node h = read-node (byteOf ws) node (piecesOf ws) tail h
