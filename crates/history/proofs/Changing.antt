@@ -1,27 +1,21 @@
 -- What a call that isn't refused changes, in the words of the tale: the ring's writes, and the state of each.
-use Prim.Native.Nat.{ℕ, zero, suc, _+_, _≤_, _<_}
+use Prim.Native.Nat.{ℕ, _<_}
 use mathlib.Core.Path.{_≡_, refl, sym, ap, _∙_, subst}
-use mathlib.Core.Bool.{Bool, true, false, not}
-use mathlib.Core.List.{List, [], _∷_, _++_, map, map-append}
+use mathlib.Core.Bool.{false}
+use mathlib.Core.List.{List, [], _∷_, map}
 use mathlib.Core.Option.{Option, none, some}
 use native.Mathlib.Omega.{arith}
 use borrow.Author.Tests.{ne-eqb}
-use lib.ListN.{length}
-use lib.Dec.{eqb}
-use Rattle.layout.specs.Bytes.{both, round}
+use Rattle.layout.specs.Bytes.{round}
 use Rattle.layout.specs.declared.Ring.{Ring}
-use Rattle.layout.proofs.Tests.{never}
 use Rattle.walk.specs.declared.Entry.{Entry}
-use Rattle.walk.specs.Walk.{Reading, readable, unreadable, readingOf, Write, writeOf, writesOf}
+use Rattle.walk.specs.Walk.{readable, readingOf, Write, writeOf, writesOf}
 use Rattle.ring.proofs.Laws.{readable-facts}
 use Rattle.state.specs.declared.State.{State}
-use Rattle.state.specs.declared.Held.{Held}
-use Rattle.state.specs.Lists.{pick, listed, holding, entryOf, withHeld}
 use Rattle.state.proofs.Finding.{Each}
 use Rattle.judge.proofs.Rules.{IsFit}
 use Rattle.rules.specs.Call.{entriesOf}
 use Rattle.rules.proofs.Standing.{Stands}
-use Rattle.rules.proofs.Fit.{held-again}
 use Rattle.history.specs.Tale.{among}
 
 -- ---- a good state, read in a way that is known

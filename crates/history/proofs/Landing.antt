@@ -1,16 +1,15 @@
 -- A byte of the sheet that is out lands: the world and the tale still agree.
-use Prim.Native.Nat.{ℕ, zero, suc, _<_, max}
+use Prim.Native.Nat.{ℕ, zero, suc}
 use mathlib.Core.Path.{_≡_, refl, sym, ap, _∙_, subst}
 use mathlib.Core.Bool.{Bool, true, false}
 use mathlib.Core.List.{List, [], _∷_, _++_, append-nil}
 use mathlib.Core.Option.{Option, none, some}
 use native.Mathlib.Omega.{arith}
-use borrow.Author.Tests.{eqb-true, eqb-false, eq-eqb}
-use lib.ListN.{length, getD}
+use borrow.Author.Tests.{eqb-true, eq-eqb}
+use lib.ListN.{getD}
 use lib.Dec.{eqb}
 use Rattle.layout.proofs.Tests.{never}
-use Rattle.walk.specs.Walk.{Write}
-use Rattle.state.specs.Lists.{pick, any}
+use Rattle.state.specs.Lists.{pick}
 use Rattle.state.proofs.Finding.{Each}
 use Rattle.state.proofs.Pairs.{any-append}
 use Rattle.shore.specs.File.{Put, put, putsAll}

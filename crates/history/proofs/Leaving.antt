@@ -1,10 +1,9 @@
 -- Letting go: what leaves the ring is what the tale lets leave, and the rest stands as it stood.
 use Prim.Native.Nat.{ℕ}
 use mathlib.Core.Path.{_≡_, refl, sym, ap, _∙_}
-use mathlib.Core.Bool.{Bool, true, false}
+use mathlib.Core.Bool.{true}
 use mathlib.Core.List.{List, [], _∷_, _++_, map, map-append}
-use mathlib.Core.Option.{Option, none, some}
-use Rattle.layout.specs.Bytes.{both, round}
+use Rattle.layout.specs.Bytes.{round}
 use Rattle.layout.specs.declared.Ring.{Ring}
 use Rattle.layout.proofs.Tests.{both-left}
 use Rattle.walk.specs.declared.Entry.{Entry}
@@ -19,7 +18,7 @@ use Rattle.state.specs.Lists.{listed, holding, entryOf, withHeld}
 use Rattle.state.specs.Pins.{leaving, staying, slotsLeft}
 use Rattle.state.proofs.Finding.{Each, each-by, each-map}
 use Rattle.rules.proofs.Fit.{held-again}
-use Rattle.history.specs.Tale.{Tale, among, leave, isPinned}
+use Rattle.history.specs.Tale.{among, leave}
 use Rattle.history.proofs.Seeing.{seen, goes, restOf, goneOf, gone-rest, gone-each, leave-seen, staying-seen, leaving-seen}
 use Rattle.history.proofs.Pinning.{PinsAre, pins-keep}
 use Rattle.history.proofs.Changing.{holds-as}

@@ -12,3 +12,5 @@ pub mod Rising
 pub mod Starting
 pub mod Restarting
 pub mod Landing
+pub mod Stepping
+pub mod Demand

@@ -1,11 +1,10 @@
 -- Unpins and good reports, after which what is due leaves: the world and the tale still agree.
-use Prim.Native.Nat.{ℕ, _+_, _≤_, _<_}
+use Prim.Native.Nat.{ℕ, _+_, _<_}
 use mathlib.Core.Path.{_≡_, refl, sym, ap, _∙_, subst}
-use mathlib.Core.Bool.{Bool, true, false, not}
-use mathlib.Core.List.{List, [], _∷_, _++_, map}
+use mathlib.Core.Bool.{true, false, not}
+use mathlib.Core.List.{List, [], _++_, map}
 use mathlib.Core.Option.{Option, none, some}
-use native.Mathlib.Omega.{arith}
-use lib.ListN.{length, getD, set}
+use lib.ListN.{length, set}
 use lib.Dec.{eqb, ltb}
 use Rattle.layout.specs.Bytes.{round}
 use Rattle.layout.proofs.Tests.{both-right}
@@ -24,12 +23,12 @@ use Rattle.judge.specs.Fits.{pinsDiffer, pinsFit}
 use Rattle.sheet.specs.Sheet.{putsIn}
 use Rattle.rules.specs.Call.{Call, unpins, reports}
 use Rattle.rules.proofs.Fit.{held-again}
-use Rattle.rules.proofs.Standing.{Stands, stands-unpin, stands-good, stands-bad}
+use Rattle.rules.proofs.Standing.{stands-unpin, stands-good, stands-bad}
 use Rattle.history.specs.World.{World}
-use Rattle.history.specs.Tale.{Tale, among, numbersOf, isOf, keep, leave, tellBy}
+use Rattle.history.specs.Tale.{Tale, among, numbersOf, keep, leave, tellBy}
 use Rattle.history.proofs.Seeing.{seen, goes, goneOf, restOf, reported-good-seen, reported-bad-seen}
 use Rattle.history.proofs.Pinning.{PinsAre, pins-removed}
-use Rattle.history.proofs.Shores.{OnShore, shore-leaves, shore-good, waiting, wait-same}
+use Rattle.history.proofs.Shores.{shore-leaves, shore-good, waiting, wait-same}
 use Rattle.history.proofs.Agreeing.{Agrees, SheetOut, OutFits}
 use Rattle.history.proofs.Changing.{standsAs}
 use Rattle.history.proofs.Reported.{batch-stands, rest-waits, others-wait}
@@ -134,6 +133,7 @@ module _ (files : ℕ → List ℕ) (W : World) (t : Tale) (k : Agrees files W t
       where
         moved : map (reported bad) hs ≡ map (seen (t .good) []) es
         moved = ap (map (reported bad)) (k .told) ∙ reported-bad-seen (t .good) (numbersOf (t .batch)) es
+
         told-bad : holding es (listed (withHeld (withFlush s 0) (map (reported bad) hs))) ≡ map (seen (t .good) []) es
         told-bad =
             ap (λ xs. holding xs (listed (withHeld (withFlush s 0) (map (reported bad) hs)))) (sym (ap (map entryOf) moved ∙ left.seen-entries (t .good) [] es))

@@ -1,19 +1,18 @@
 -- A batch reported good: it stands on shore whole, and what waits is the rest.
-use Prim.Native.Nat.{ℕ, zero, suc, _+_, _≤_, _<_, max}
+use Prim.Native.Nat.{ℕ, suc, _+_, _<_}
 use mathlib.Core.Path.{_≡_, refl, sym, ap, _∙_, subst}
 use mathlib.Core.Bool.{Bool, true, false, not}
-use mathlib.Core.List.{List, [], _∷_, _++_, map, append-nil}
-use mathlib.Core.Option.{Option, none, some}
+use mathlib.Core.List.{List, [], _∷_, _++_, append-nil}
+use mathlib.Core.Option.{some}
 use native.Mathlib.Omega.{arith}
 use borrow.Author.Tests.{eqb-true, eq-eqb}
 use lib.ListN.{length, getD}
 use lib.Seq.{ext-getD}
 use lib.Dec.{eqb}
 use Rattle.layout.specs.Bytes.{both}
-use Rattle.layout.proofs.Tests.{never, true-not-false, both-left}
 use Rattle.walk.specs.Walk.{Write}
-use Rattle.state.specs.Lists.{pick, any}
-use Rattle.state.proofs.Bools.{no-both, both-no, both-yes}
+use Rattle.state.specs.Lists.{pick}
+use Rattle.state.proofs.Bools.{no-both, both-yes}
 use Rattle.state.proofs.Pairs.{any-append}
 use Rattle.state.proofs.Finding.{Each}
 use Rattle.shore.specs.File.{Put, put, lay, putsAll}
@@ -97,6 +96,7 @@ module _ (sheet : List ℕ) (shore : ℕ → List ℕ) (t : Tale) (o : SheetOut 
           at : (x : Bool) → not (among (v .number) (numbersOf (us ++ v ∷ vs))) ≡ false → not (pick x true (among (v .number) (numbersOf (us ++ v ∷ vs)))) ≡ false
           at true e = refl
           at false e = e
+
       shift : (us : List Write) → (us ++ v ∷ []) ++ vs ≡ us ++ v ∷ vs
       shift [] = refl
       shift (u ∷ us) = ap (_∷_ u) (shift us)

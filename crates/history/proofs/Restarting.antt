@@ -1,32 +1,28 @@
 -- A restart: every entry comes back Unflushed, and the world and the tale still agree.
-use Prim.Native.Nat.{ℕ, _<_}
+use Prim.Native.Nat.{ℕ}
 use mathlib.Core.Path.{_≡_, refl, sym, ap, _∙_}
 use mathlib.Core.Bool.{Bool, true, false, not}
 use mathlib.Core.List.{List, [], _∷_, _++_, map}
 use mathlib.Core.Option.{none}
 use borrow.Author.Tests.{eqb-true, eq-eqb}
-use lib.ListN.{length, take, length-map}
-use lib.Seq.{take-at}
+use lib.ListN.{take, length-map}
 use lib.Dec.{eqb}
 use Rattle.layout.specs.Bytes.{both, round}
-use Rattle.layout.proofs.Tests.{never, both-left, both-right, true-not-false}
+use Rattle.layout.proofs.Tests.{never, both-left, both-right}
 use Rattle.walk.specs.declared.Entry.{Entry}
 use Rattle.walk.specs.Walk.{Write, writeOf}
-use Rattle.state.specs.declared.State.{State}
-use Rattle.state.specs.declared.Held.{Held}
-use Rattle.state.specs.Lists.{pick, all, pairs, flushed, listed, listedOf, holding, entryOf, comesBack, withHeld, reopened}
+use Rattle.state.specs.Lists.{pick, all, pairs, flushed, listed, holding, entryOf, comesBack, withHeld, reopened}
 use Rattle.state.proofs.Bools.{no-both, both-no, both-yes}
-use Rattle.state.proofs.Finding.{Each, each-by, each-true}
 use Rattle.judge.specs.Fits.{phasesFit, pairFits}
 use Rattle.rules.specs.Call.{Call, reopens}
 use Rattle.rules.proofs.Fit.{held-again}
-use Rattle.rules.proofs.Standing.{Stands, hs-fit}
+use Rattle.rules.proofs.Standing.{hs-fit}
 use Rattle.rules.proofs.Staying.{reopened-stands}
 use Rattle.history.specs.World.{World}
-use Rattle.history.specs.Tale.{Tale, among, numbersOf, isOf, keep, tellBy}
+use Rattle.history.specs.Tale.{Tale, among, numbersOf, tellBy}
 use Rattle.history.proofs.Seeing.{phaseIn, seen, back-seen}
 use Rattle.history.proofs.Pinning.{pins-none}
-use Rattle.history.proofs.Shores.{OnShore, Parted, ofNode, sure, waits, waiting, shore-restarts}
+use Rattle.history.proofs.Shores.{Parted, ofNode, sure, waits, waiting, shore-restarts}
 use Rattle.history.proofs.Agreeing.{Agrees}
 use Rattle.history.proofs.Changing.{standsAs}
 use Rattle.history.proofs.Leaving.{seen-entries}
@@ -76,6 +72,7 @@ module _ (f : ℕ → ℕ) (good batch : List ℕ) where
     where
       ws : List Write
       ws = map (writeOf f) es
+
       at : (b : Bool) → eqb (e .node) n ≡ b → (g : Bool) → among (e .number) good ≡ g → ofNode n ws ≡ sure good n ws ++ waiting good n ws
           → pick b (writeOf f e ∷ ofNode n ws) (ofNode n ws) ≡ pick (both b g) (writeOf f e ∷ sure good n ws) (sure good n ws) ++ pick (both b (not g)) (writeOf f e ∷ waiting good n ws) (waiting good n ws)
       at false y g z k = rw (no-both g, no-both (not g)) k

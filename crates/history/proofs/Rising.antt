@@ -1,13 +1,12 @@
 -- Writes in the order of their numbers: what is kept of them stays in order, and a number tells a write.
 use Prim.Native.Nat.{ℕ, zero, suc, _≤_, _<_}
-use mathlib.Core.Path.{_≡_, refl, sym, ap, _∙_}
+use mathlib.Core.Path.{_≡_, refl}
 use mathlib.Core.Bool.{Bool, true, false}
-use mathlib.Core.List.{List, [], _∷_, _++_, map}
+use mathlib.Core.List.{List, [], _∷_, map}
 use native.Mathlib.Omega.{arith}
 use borrow.Author.Tests.{ne-eqb}
-use lib.ListN.{length, take, drop}
-use lib.Dec.{eqb}
-use Rattle.layout.proofs.Tests.{never, true-not-false}
+use lib.ListN.{take, drop}
+use Rattle.layout.proofs.Tests.{true-not-false}
 use Rattle.walk.specs.declared.Entry.{Entry}
 use Rattle.walk.specs.Walk.{Rising, Write, writeOf}
 use Rattle.state.specs.Lists.{pick}
@@ -58,6 +57,7 @@ order-apart (suc m) last (w ∷ ws) o = more (drop m ws) (above-drop m ws (order
     above-drop zero vs u = u
     above-drop (suc m) [] u = tt
     above-drop (suc m) (v ∷ vs) u = above-drop m vs (u .1)
+
     more : (vs : List Write) → Each (λ v. w .number < v .number) vs → Each (λ v. among (v .number) (numbersOf (take m ws)) ≡ false) vs
         → Each (λ v. among (v .number) (numbersOf (take (suc m) (w ∷ ws))) ≡ false) vs
     more [] u x = tt
@@ -80,9 +80,11 @@ order-own q m last (w ∷ ws) o = at (q w) refl m (λ j. order-own q j (w .numbe
   where
     above : Each (λ v. w .number < v .number) ws
     above = order-above (w .number) ws (o .1)
+
     skip : (ns : List ℕ) (vs : List Write) → Each (λ v. w .number < v .number) vs → Each (λ v. among (v .number) ns ≡ true → q v ≡ true) vs → Each (λ v. among (v .number) (w .number ∷ ns) ≡ true → q v ≡ true) vs
     skip ns [] u x = tt
     skip ns (v ∷ vs) u x = ((λ z. x .0 (rw (ne-eqb (w .number) (v .number) (λ e. let l = u .0 in omega arith)) at z)), skip ns vs (u .1) (x .1))
+
     at : (b : Bool) → q w ≡ b → (m : ℕ) → ((j : ℕ) → Each (λ v. among (v .number) (numbersOf (take j (keep q ws))) ≡ true → q v ≡ true) ws)
         → Each (λ v. among (v .number) (numbersOf (take m (pick b (w ∷ keep q ws) (keep q ws)))) ≡ true → q v ≡ true) (w ∷ ws)
     at true e zero h = ((λ z. e), h zero)

@@ -7,9 +7,8 @@ use mathlib.Core.Option.{some}
 use borrow.Author.Tests.{eqb-true, eqb-false}
 use lib.Dec.{eqb}
 use Rattle.layout.specs.Bytes.{both}
-use Rattle.layout.proofs.Tests.{never}
 use Rattle.walk.specs.Walk.{Write}
-use Rattle.state.specs.Lists.{pick, any}
+use Rattle.state.specs.Lists.{pick}
 use Rattle.state.proofs.Bools.{both-no, no-both, both-yes, yes-both}
 use Rattle.state.proofs.Finding.{Each}
 use Rattle.shore.specs.File.{Put, put, lay, putsOf, putsAll}

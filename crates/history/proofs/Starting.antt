@@ -1,16 +1,15 @@
 -- A flush start that sends a sheet: the world and the tale still agree.
-use Prim.Native.Nat.{ℕ, zero, suc, _+_, _*_, _≤_, _<_, _^_}
+use Prim.Native.Nat.{ℕ, zero, suc, _+_, _*_, _≤_, _<_}
 use mathlib.Core.Path.{_≡_, refl, sym, ap, _∙_, subst}
-use mathlib.Core.Bool.{Bool, true, false, not}
-use mathlib.Core.List.{List, [], _∷_, _++_, map}
+use mathlib.Core.Bool.{Bool, true, false}
+use mathlib.Core.List.{List, [], _∷_, map}
 use mathlib.Core.Option.{Option, none, some}
 use native.Mathlib.Omega.{arith}
 use borrow.Author.Tests.{eq-eqb, ne-eqb, le-leb}
 use lib.ListN.{length, take, drop, take-append-drop}
 use lib.Seq.{take-at}
-use lib.Dec.{eqb, leb}
 use Rattle.layout.specs.Sizes.{numberLimit, fileEnd, slotSize, headSize}
-use Rattle.layout.specs.Bytes.{both, round}
+use Rattle.layout.specs.Bytes.{round}
 use Rattle.layout.proofs.Tests.{never, both-left, both-right}
 use Rattle.layout.proofs.Views.{bytes-length}
 use Rattle.walk.specs.declared.Entry.{Entry}
@@ -23,8 +22,7 @@ use Rattle.state.specs.Lists.{pick, all, listed, holding, entryOf, withNext, wi
 use Rattle.state.specs.Batch.{mostBatch, batchOf, takenOf}
 use Rattle.state.proofs.Bools.{both-intro}
 use Rattle.state.proofs.Finding.{Each, each-by, each-take, each-map}
-use Rattle.shore.specs.File.{Put}
-use Rattle.sheet.specs.Sheet.{sheetOf, putsIn}
+use Rattle.sheet.specs.Sheet.{sheetOf}
 use Rattle.sheet.specs.Places.{laidAt}
 use Rattle.sheet.proofs.Covered.{endsBy}
 use Rattle.sheet.proofs.Storing.{laid-front}
@@ -33,12 +31,11 @@ use Rattle.rules.specs.Flush.{hasBatch, sheetFor}
 use Rattle.rules.proofs.Owning.{next-facts}
 use Rattle.rules.proofs.Fit.{held-again}
 use Rattle.rules.proofs.Taking.{taken-entries}
-use Rattle.rules.proofs.Standing.{Real, Stands, hs-fit, hs-entries, stands-start}
-use Rattle.history.specs.World.{World, nth}
-use Rattle.history.specs.Tale.{Tale, among, numbersOf, isOf, keep, tellBy}
+use Rattle.rules.proofs.Standing.{Real, hs-fit, hs-entries, stands-start}
+use Rattle.history.specs.World.{World}
+use Rattle.history.specs.Tale.{Tale, numbersOf, keep, tellBy}
 use Rattle.history.proofs.Seeing.{seen, isOpen, below-seen, batch-seen, taken-told}
-use Rattle.history.proofs.Shores.{OnShore, waiting}
-use Rattle.history.proofs.Agreeing.{Agrees, Stood, SheetOut, OutFits, isNone}
+use Rattle.history.proofs.Agreeing.{Agrees, SheetOut, OutFits, isNone}
 use Rattle.history.proofs.Changing.{standsAs}
 use Rattle.history.proofs.Rising.{InOrder, rising-order, order-keep, order-apart, order-own}
 

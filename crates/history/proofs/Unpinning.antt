@@ -1,39 +1,31 @@
 -- Pins, tickets and unpins: the world and the tale still agree.
 use Prim.Native.Nat.{ℕ, _+_, _≤_, _<_}
 use mathlib.Core.Path.{_≡_, refl, sym, ap, _∙_}
-use mathlib.Core.Bool.{Bool, true, false, not}
-use mathlib.Core.List.{List, [], _∷_, _++_, map}
+use mathlib.Core.Bool.{true}
+use mathlib.Core.List.{List, [], _∷_, _++_}
 use mathlib.Core.Option.{Option, none, some}
 use native.Mathlib.Omega.{arith}
 use borrow.Author.Tests.{ne-eqb}
 use lib.ListN.{length, getD, set}
-use lib.Dec.{eqb}
 use Rattle.layout.specs.Sizes.{numberLimit}
 use Rattle.layout.specs.Bytes.{round}
 use Rattle.walk.specs.declared.Entry.{Entry}
-use Rattle.walk.specs.Walk.{writeOf, slotsUsed}
-use Rattle.ring.specs.Ring.{shrunk}
 use Rattle.state.specs.declared.State.{State}
-use Rattle.state.specs.declared.Pin.{Pin}
 use Rattle.state.specs.declared.Held.{Held}
-use Rattle.state.specs.Lists.{pick, all, pairs, noPin, listed, holding, entryOf, withNext, withPins, withHeld}
-use Rattle.state.specs.Pins.{isLive, markOf, staying, slotsLeft, pinPlace}
-use Rattle.state.proofs.Finding.{Each, each-by, each-right}
-use Rattle.layout.proofs.Tests.{both-right}
-use Rattle.judge.specs.Fits.{pinsDiffer, pinsFit}
+use Rattle.state.specs.Lists.{noPin, listed, holding, withNext, withPins}
+use Rattle.state.specs.Pins.{isLive, markOf}
+use Rattle.state.proofs.Finding.{Each, each-by}
 use Rattle.sheet.specs.Sheet.{sheetOf}
 use Rattle.rules.specs.Call.{Call, pins, unpins, takesTicket}
 use Rattle.rules.specs.Outcome.{newPin}
 use Rattle.rules.proofs.Owning.{next-facts}
-use Rattle.rules.proofs.Standing.{Stands, stands-ticket, stands-pin, stands-unpin, hs-fit}
+use Rattle.rules.proofs.Standing.{stands-ticket, stands-pin, hs-fit}
 use Rattle.history.specs.World.{World}
-use Rattle.history.specs.Tale.{Tale, among, numbersOf, isOf, keep, leave, pinOf, tellBy}
-use Rattle.history.proofs.Seeing.{seen, goes, goneOf, restOf, mark-seen, below-seen}
-use Rattle.history.proofs.Pinning.{PinsAre, pins-added, pins-removed}
-use Rattle.history.proofs.Shores.{OnShore, shore-leaves, waiting, wait-same}
-use Rattle.history.proofs.Agreeing.{Agrees, SheetOut, OutFits}
+use Rattle.history.specs.Tale.{Tale, numbersOf, pinOf, tellBy}
+use Rattle.history.proofs.Seeing.{mark-seen, below-seen}
+use Rattle.history.proofs.Pinning.{PinsAre, pins-added}
+use Rattle.history.proofs.Agreeing.{Agrees, OutFits}
 use Rattle.history.proofs.Changing.{standsAs}
-use Rattle.history.proofs.Leaving as left
 
 module _ (files : ℕ → List ℕ) (W : World) (t : Tale) (k : Agrees files W t) where
   abbrev r : List ℕ
@@ -91,7 +83,7 @@ module _ (files : ℕ → List ℕ) (W : World) (t : Tale) (k : Agrees files W t
     same-pin =
         let o = below-seen (s .next) (t .good) (numbersOf (t .batch)) es (rw (k .told) at (hs-fit r s (k .stands) .numbers)) in
         let m : markOf (c .node) (s .next) hs ≡ pinOf t (s .next) (c .node) .mark =
-            ap (markOf (c .node) (s .next)) (k .told) ∙ rw (← k .written) (mark-seen f (t .good) (numbersOf (t .batch)) (c .node) (s .next) es o) in
+        ap (markOf (c .node) (s .next)) (k .told) ∙ rw (← k .written) (mark-seen f (t .good) (numbersOf (t .batch)) (c .node) (s .next) es o) in
         ap (λ m. record { number = s .next; mark = m; node = c .node }) m
 
     lives : isLive (newPin (c .node) s hs) ≡ true

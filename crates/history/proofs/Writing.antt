@@ -1,6 +1,6 @@
 -- A write that is accepted: the world and the tale still agree.
-use Prim.Native.Nat.{ℕ, _+_, _≤_, _<_}
-use mathlib.Core.Path.{_≡_, refl, sym, ap, _∙_}
+use Prim.Native.Nat.{ℕ, _+_, _<_}
+use mathlib.Core.Path.{_≡_, sym, ap, _∙_}
 use mathlib.Core.Bool.{Bool, true, false}
 use mathlib.Core.List.{List, [], _∷_, _++_, map, map-append, append-assoc}
 use mathlib.Core.Option.{Option, none, some}
@@ -20,12 +20,12 @@ use Rattle.state.proofs.Finding.{Each, each-by, each-join}
 use Rattle.rules.specs.Call.{Call, writes}
 use Rattle.rules.specs.Outcome.{newEntry}
 use Rattle.rules.proofs.Owning.{Writable}
-use Rattle.rules.proofs.Standing.{Real, Stands, hs-entries, storable, stands-write}
+use Rattle.rules.proofs.Standing.{Real, hs-entries, storable, stands-write}
 use Rattle.rules.proofs.Fit.{held-again}
-use Rattle.history.specs.World.{World, nth}
-use Rattle.history.specs.Tale.{Tale, among, numbersOf, isOf, keep, tellBy}
+use Rattle.history.specs.World.{World}
+use Rattle.history.specs.Tale.{Tale, among, numbersOf, tellBy}
 use Rattle.history.proofs.Seeing.{seen, written-seen}
-use Rattle.history.proofs.Shores.{OnShore, shore-writes, waiting, waits, keep-append}
+use Rattle.history.proofs.Shores.{shore-writes, waiting, waits, keep-append}
 use Rattle.history.proofs.Agreeing.{Agrees, SheetOut, OutFits}
 use Rattle.history.proofs.Changing.{standsAs, holds-as, fresh}
 
@@ -102,9 +102,11 @@ module _ (files : ℕ → List ℕ) (W : World) (t : Tale) (k : Agrees files W t
     where
       x : Write
       x = written e (c .bytes)
+
       at : (b : Bool) → Each (λ v. among (v .number) (numbersOf (t .batch)) ≡ false) (pick b (x ∷ []) [])
       at true = (new-batch, tt)
       at false = tt
+
       true-not : among (s .next) (numbersOf (t .batch)) ≡ true → _≡_ {A = ℕ} 0 1
       true-not z = absurd (true-not-false _ z new-batch)
 

@@ -32,7 +32,7 @@ numbered-back StateUnfit = refl
 pub refuses-one : (a b : Reason) → refuses a ≡ refuses b → a ≡ b
 refuses-one a b e = same-some a b (sym (numbered-back a) ∙ ap (λ x. first (λ v. eqb (numberOf v) (x .refusal)) order) e ∙ numbered-back b)
 
-number-some : (w : Reason) → 0 < numberOf w
+pub number-some : (w : Reason) → 0 < numberOf w
 number-some NodeZero = omega arith
 number-some BadLength = omega arith
 number-some PastFileEnd = omega arith

@@ -56,17 +56,17 @@ module _ (p : Reason → Bool) where
 
 module _ (c : Call) (r : List ℕ) (s : State) (k : Stands r s) where
   module _ (o : refusalOf c r s ≡ none) where
-    free : (i : ℕ) → i < 12 → applies c r s (getD order i Unreadable) ≡ false
+    pub free : (i : ℕ) → i < 12 → applies c r s (getD order i Unreadable) ≡ false
     unfolding refusalOf
     free i h = first-none (applies c r s) Unreadable order i o h
 
-    numbered : needsNumber c (readingOf r) s ≡ true → s .next + 1 ≤ numberLimit
+    pub numbered : needsNumber c (readingOf r) s ≡ true → s .next + 1 ≤ numberLimit
     numbered y =
         let n = eqb-false (s .next) numberLimit (both-fails _ _ (free 9 (omega arith)) y) in
         let b = next-facts (s .next) (s .flush) (k .fit .next) .1 in
         omega (arith, n)
 
-    may-write : c .kind ≡ writes → Writable (k .ring) s (c .node) (c .offset) (length (c .bytes))
+    pub may-write : c .kind ≡ writes → Writable (k .ring) s (c .node) (c .offset) (length (c .bytes))
     may-write e =
         let l = pick-false _ _ (both-fails _ _ (free 3 (omega arith)) (rw e)) in
         let n = eqb-false (length (c .bytes)) 0 (l .0) in
