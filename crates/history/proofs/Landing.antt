@@ -79,18 +79,13 @@ module _ (sheet : List ℕ) (shore : ℕ → List ℕ) (t : Tale) (o : SheetOut 
   put-on : (q : Put) → putOn shore (nodeIn sheet) (some q) (o .node) ≡ put (shore (o .node)) (q .place) (q .byte)
   put-on q = ap (λ b. pick b (put (shore (o .node)) (q .place) (q .byte)) (shore (o .node))) (eq-eqb (nodeIn sheet) (o .node) out-node)
 
+  -- what is told of the sheet but what has landed of it
+  heard : (shore′ : ℕ → List ℕ) (k : ℕ) → ((j : ℕ) → among j (k ∷ t .landed) ≡ true → (x : Put) → nth j (putsIn sheet) ≡ some x → Stood (shore′ (o .node)) x) → SheetOut sheet shore′ (hear t k)
+  heard shore′ k h =
+      record { node = o .node; named = o .named; is = o .is; ends = o .ends; rest = o .rest; front = o .front; apart = o .apart; own = o .own; stood = h }
+
   pub out-lands : (k : ℕ) (q : Put) → nth k (putsIn sheet) ≡ some q → SheetOut sheet (putOn shore (nodeIn sheet) (some q)) (hear t k)
-  out-lands k q e = record {
-    node = o .node;
-    named = o .named;
-    is = o .is;
-    ends = o .ends;
-    rest = o .rest;
-    front = o .front;
-    apart = o .apart;
-    own = o .own;
-    stood = λ j z x y. subst (λ f. Stood f x) (sym (put-on q)) (at j (eqb k j) refl z x y);
-  }
+  out-lands k q e = heard (putOn shore (nodeIn sheet) (some q)) k (λ j z x y. subst (λ f. Stood f x) (sym (put-on q)) (at j (eqb k j) refl z x y))
     where
       at : (j : ℕ) (b : Bool) → eqb k j ≡ b → pick b true (among j (t .landed)) ≡ true → (x : Put) → nth j (putsIn sheet) ≡ some x → Stood (put (shore (o .node)) (q .place) (q .byte)) x
       at j true u z x y =
@@ -103,17 +98,7 @@ module _ (sheet : List ℕ) (shore : ℕ → List ℕ) (t : Tale) (o : SheetOut 
 
   -- an index that is none changes nothing
   pub out-misses : (k : ℕ) → nth k (putsIn sheet) ≡ none → SheetOut sheet (putOn shore (nodeIn sheet) none) (hear t k)
-  out-misses k e = record {
-    node = o .node;
-    named = o .named;
-    is = o .is;
-    ends = o .ends;
-    rest = o .rest;
-    front = o .front;
-    apart = o .apart;
-    own = o .own;
-    stood = λ j z x y. at j (eqb k j) refl z x y;
-  }
+  out-misses k e = heard (putOn shore (nodeIn sheet) none) k (λ j z x y. at j (eqb k j) refl z x y)
     where
       at : (j : ℕ) (b : Bool) → eqb k j ≡ b → pick b true (among j (t .landed)) ≡ true → (x : Put) → nth j (putsIn sheet) ≡ some x → Stood (shore (o .node)) x
       at j true u z x y = never (let w : none ≡ some x = sym e ∙ ap (λ i. nth i (putsIn sheet)) (eqb-true k j u) ∙ y in cc)

@@ -13,4 +13,6 @@ pub mod Starting
 pub mod Restarting
 pub mod Landing
 pub mod Stepping
+pub mod Room
+pub mod Numbers
 pub mod Demand

@@ -44,7 +44,7 @@ module _ (files : ℕ → List ℕ) where
   agrees-as r s shore out out′ u u′ e f k = rw (e, f) k
 
 -- a refusal isn't done
-refused-not : (why : Reason) → isDone (refuses why) ≡ false
+pub refused-not : (why : Reason) → isDone (refuses why) ≡ false
 refused-not why = ne-eqb (numberOf why) 0 (λ e. let h = number-some why in omega arith)
 
 module _ (c : Call) (o : Outcome) (out : Option (List ℕ)) where

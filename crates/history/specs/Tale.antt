@@ -1,10 +1,11 @@
 -- What a history tells by itself, from calls and their answers alone: accepted writes, live pins and their marks, batches reported good, and the writes that must
 -- be held. No stored state is looked at. Document 01, "Moves", paragraphs "Pins", "Letting go" and "Flush".
-use Prim.Native.Nat.{ℕ}
+use Prim.Native.Nat.{ℕ, _+_}
 use mathlib.Core.Bool.{Bool, true, false, not}
 use mathlib.Core.List.{List, [], _∷_, _++_, map}
-use lib.ListN.{take}
+use lib.ListN.{length, take}
 use lib.Dec.{eqb, leb}
+use Rattle.layout.specs.Sizes.{slotsOf}
 use Rattle.layout.specs.Bytes.{both}
 use Rattle.walk.specs.Walk.{Write}
 use Rattle.state.specs.declared.Pin.{Pin}
@@ -30,8 +31,12 @@ pub record Tale : Type 0 where
   -- the numbers given out since the last restart, the newest first
   pub given : List ℕ
 
+abbrev tells : (accepted held : List Write) → (good : List ℕ) → (batch : List Write) → (live : List Pin) → (landed given : List ℕ) → Tale
+tells accepted held good batch live landed given =
+    record { accepted = accepted; held = held; good = good; batch = batch; live = live; landed = landed; given = given }
+
 abbrev pub nothingYet : Tale
-nothingYet = record { accepted = []; held = []; good = []; batch = []; live = []; landed = []; given = [] }
+nothingYet = tells [] [] [] [] [] [] []
 
 -- ---- tests
 
@@ -56,9 +61,14 @@ isOf node w = eqb (w .node) node
 abbrev pub isGood : Tale → Write → Bool
 isGood t w = among (w .number) (t .good)
 
+-- the slots that writes take
+abbrev pub slotsTaken : List Write → ℕ
+slotsTaken [] = 0
+slotsTaken (w ∷ ws) = slotsOf (length (w .bytes)) + slotsTaken ws
+
 -- ---- what a call that isn't refused tells, with the number that it gave
 
--- "the least number among writes in its reach that are not yet Flushed, or its own number if there are none"
+-- "the least number among writes in its reach that are not yet Flushed, or its own number if there are none"; its own is above all of those
 abbrev pub least : ℕ → List Write → ℕ
 least own [] = own
 least own (w ∷ ws) = pick (leb (w .number) (least own ws)) (w .number) (least own ws)
@@ -75,94 +85,36 @@ abbrev pub leave : List ℕ → List Pin → List Write → List Write
 leave good ps [] = []
 leave good ps (w ∷ ws) = pick (both (among (w .number) good) (not (isPinned ps w))) (leave good ps ws) (w ∷ ws)
 
-abbrev wrote : Tale → ℕ → Call → Tale
-wrote t number c =
-    let w : Write = record { number = number; node = c .node; handle = c .handle; offset = c .offset; bytes = c .bytes } in
-    record {
-      accepted = t .accepted ++ w ∷ [];
-      held = t .held ++ w ∷ [];
-      good = t .good;
-      batch = t .batch;
-      live = t .live;
-      landed = t .landed;
-      given = number ∷ t .given;
-    }
+-- a write is accepted, and must be held
+abbrev wrote : Tale → Write → Tale
+wrote t w = tells (t .accepted ++ w ∷ []) (t .held ++ w ∷ []) (t .good) (t .batch) (t .live) (t .landed) (w .number ∷ t .given)
 
 abbrev pinned : Tale → ℕ → ℕ → Tale
-pinned t number node =
-    record {
-      accepted = t .accepted;
-      held = t .held;
-      good = t .good;
-      batch = t .batch;
-      live = t .live ++ pinOf t number node ∷ [];
-      landed = t .landed;
-      given = number ∷ t .given;
-    }
+pinned t number node = tells (t .accepted) (t .held) (t .good) (t .batch) (t .live ++ pinOf t number node ∷ []) (t .landed) (number ∷ t .given)
 
 abbrev unpinned : Tale → ℕ → Tale
 unpinned t number =
-    let ps = keep (λ p. not (eqb (p .number) number)) (t .live) in
-    record {
-      accepted = t .accepted;
-      held = leave (t .good) ps (t .held);
-      good = t .good;
-      batch = t .batch;
-      live = ps;
-      landed = t .landed;
-      given = t .given;
-    }
+    let live = keep (λ p. not (eqb (p .number) number)) (t .live) in
+    tells (t .accepted) (leave (t .good) live (t .held)) (t .good) (t .batch) live (t .landed) (t .given)
 
 -- "its oldest 32 Unflushed writes, or all if fewer"
 abbrev started : Tale → ℕ → ℕ → Tale
 started t number node =
-    record {
-      accepted = t .accepted;
-      held = t .held;
-      good = t .good;
-      batch = take mostBatch (keep (λ w. both (isOf node w) (not (isGood t w))) (t .held));
-      live = t .live;
-      landed = [];
-      given = number ∷ t .given;
-    }
+    let batch = take mostBatch (keep (λ w. both (isOf node w) (not (isGood t w))) (t .held)) in
+    tells (t .accepted) (t .held) (t .good) batch (t .live) [] (number ∷ t .given)
 
+-- after a good report what is due leaves; after a bad one the batch waits again
 abbrev reportedBy : Bool → Tale → Tale
 reportedBy true t =
     let good = t .good ++ numbersOf (t .batch) in
-    record {
-      accepted = t .accepted;
-      held = leave good (t .live) (t .held);
-      good = good;
-      batch = [];
-      live = t .live;
-      landed = [];
-      given = t .given;
-    }
-reportedBy false t =
-    record {
-      accepted = t .accepted;
-      held = t .held;
-      good = t .good;
-      batch = [];
-      live = t .live;
-      landed = [];
-      given = t .given;
-    }
+    tells (t .accepted) (leave good (t .live) (t .held)) good [] (t .live) [] (t .given)
+reportedBy false t = tells (t .accepted) (t .held) (t .good) [] (t .live) [] (t .given)
 
 abbrev restarted : Tale → Tale
-restarted t = record { accepted = t .accepted; held = t .held; good = []; batch = []; live = []; landed = []; given = [] }
+restarted t = tells (t .accepted) (t .held) [] [] [] [] []
 
 abbrev numbered : Tale → ℕ → Tale
-numbered t number =
-    record {
-      accepted = t .accepted;
-      held = t .held;
-      good = t .good;
-      batch = t .batch;
-      live = t .live;
-      landed = t .landed;
-      given = number ∷ t .given;
-    }
+numbered t number = tells (t .accepted) (t .held) (t .good) (t .batch) (t .live) (t .landed) (number ∷ t .given)
 
 -- "nothing" starts no flush
 abbrev startedIf : List ℕ → Tale → ℕ → Tale
@@ -176,7 +128,7 @@ front (v ∷ vs) = v
 abbrev pub tellBy : Kind → Call → List ℕ → Tale → Tale
 tellBy makes c vs t = t
 tellBy reopens c vs t = restarted t
-tellBy writes c vs t = wrote t (front vs) c
+tellBy writes c vs t = wrote t (record { number = front vs; node = c .node; handle = c .handle; offset = c .offset; bytes = c .bytes })
 tellBy pins c vs t = pinned t (front vs) (c .node)
 tellBy unpins c vs t = unpinned t (c .number)
 tellBy asksEnd c vs t = t
@@ -190,17 +142,9 @@ tellBy asksTurn c vs t = t
 abbrev pub tell : Tale → Call → Said → Tale
 tell t c said = pick (isDone said) (tellBy (c .kind) c (said .values) t) t
 
+-- a byte landed
 abbrev pub hear : Tale → ℕ → Tale
-hear t k =
-    record {
-      accepted = t .accepted;
-      held = t .held;
-      good = t .good;
-      batch = t .batch;
-      live = t .live;
-      landed = k ∷ t .landed;
-      given = t .given;
-    }
+hear t k = tells (t .accepted) (t .held) (t .good) (t .batch) (t .live) (k ∷ t .landed) (t .given)
 
 -- the tale of moves from a world on, the newest first
 abbrev pub told : World → Move → Tale → Tale
