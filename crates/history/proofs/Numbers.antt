@@ -91,7 +91,7 @@ module _ (c : Call) (r : List ℕ) (s : State) (t : Tale) (k : Falling (s .next)
   done-as kind e g es hs =
       let o = doneBy kind c g es hs r s in
       let u : tell t c (o .said) ≡ tellBy kind c (o .said .values) t =
-          ap (λ b. pick b (tellBy (c .kind) c (o .said .values) t) t) (done-said kind g es hs) ∙ ap (λ x. tellBy x c (o .said .values) t) e in
+      ap (λ b. pick b (tellBy (c .kind) c (o .said .values) t) t) (done-said kind g es hs) ∙ ap (λ x. tellBy x c (o .said .values) t) e in
       subst (λ x. Falling (o .state .next) (x .given)) (sym u) (done-falls kind e g es hs)
 
   step-by : (x : Option Reason) → refusalOf c r s ≡ x → Falling (outcome c r s .state .next) (tell t c (outcome c r s .said) .given)
