@@ -16,3 +16,5 @@ pub mod Stepping
 pub mod Room
 pub mod Numbers
 pub mod Demand
+pub mod Changes
+pub mod Tickets

@@ -1,6 +1,6 @@
 -- Numbers given out between two restarts (of writes, pins, flushes and tickets) rise and are all different; a refused call takes none.
 -- Document 01, "Moves": "Writes, pins, flush starts and tickets each take the next number. A refused call takes none."
-use Prim.Native.Nat.{ℕ, _+_, _<_}
+use Prim.Native.Nat.{ℕ, _+_, _≤_, _<_}
 use mathlib.Core.Path.{_≡_, refl, sym, ap, _∙_, subst}
 use mathlib.Core.Bool.{Bool, true, false}
 use mathlib.Core.List.{List, [], _∷_}
@@ -31,6 +31,38 @@ Falling next (n ∷ ns) = (n < next) × Falling n ns
 pub refused-same : (c : Call) (r : List ℕ) (s : State) (why : Reason) → refusalOf c r s ≡ some why → outcome c r s ≡ lentBy (refuses why) s r (c .buffer)
 unfolding outcome
 refused-same c r s why o = rw o
+
+-- ---- what a call that isn't refused says and tells
+
+module _ (c : Call) (r : List ℕ) (s : State) where
+  report-said : (b : Bool) (g : Ring) (hs : List Held) → isDone (reportDone b g hs r s .said) ≡ true
+  report-said true g hs = refl
+  report-said false g hs = refl
+
+  start-said : (b : Bool) (g : Ring) (hs : List Held) → isDone (startDone b (c .node) g hs r s (c .buffer) .said) ≡ true
+  start-said true g hs = refl
+  start-said false g hs = refl
+
+  done-said : (kind : Kind) (g : Ring) (es : List Entry) (hs : List Held) → isDone (doneBy kind c g es hs r s .said) ≡ true
+  done-said makes g es hs = refl
+  done-said reopens g es hs = refl
+  done-said writes g es hs = refl
+  done-said pins g es hs = refl
+  done-said unpins g es hs = refl
+  done-said asksEnd g es hs = refl
+  done-said reports g es hs = report-said (c .good) g hs
+  done-said starts g es hs = start-said (hasBatch (c .node) hs) g hs
+  done-said fills g es hs = refl
+  done-said takesTicket g es hs = refl
+  done-said asksTicket g es hs = refl
+  done-said asksTurn g es hs = refl
+
+  -- the tale goes by the kind
+  pub told-done : (t : Tale) (kind : Kind) → c .kind ≡ kind → (g : Ring) (es : List Entry) (hs : List Held)
+      → tell t c (doneBy kind c g es hs r s .said) ≡ tellBy kind c (doneBy kind c g es hs r s .said .values) t
+  told-done t kind e g es hs =
+      let vs = doneBy kind c g es hs r s .said .values in
+      ap (λ b. pick b (tellBy (c .kind) c vs t) t) (done-said kind g es hs) ∙ ap (λ x. tellBy x c vs t) e
 
 module _ (c : Call) (r : List ℕ) (s : State) (t : Tale) (k : Falling (s .next) (t .given)) (not-made : isOne c (makes ∷ []) ≡ false) where
   one-more : Falling (s .next + 1) (s .next ∷ t .given)
@@ -64,35 +96,10 @@ module _ (c : Call) (r : List ℕ) (s : State) (t : Tale) (k : Falling (s .next)
   done-falls asksTicket e g es hs = k
   done-falls asksTurn e g es hs = k
 
-  report-said : (b : Bool) (g : Ring) (hs : List Held) → isDone (reportDone b g hs r s .said) ≡ true
-  report-said true g hs = refl
-  report-said false g hs = refl
-
-  start-said : (b : Bool) (g : Ring) (hs : List Held) → isDone (startDone b (c .node) g hs r s (c .buffer) .said) ≡ true
-  start-said true g hs = refl
-  start-said false g hs = refl
-
-  done-said : (kind : Kind) (g : Ring) (es : List Entry) (hs : List Held) → isDone (doneBy kind c g es hs r s .said) ≡ true
-  done-said makes g es hs = refl
-  done-said reopens g es hs = refl
-  done-said writes g es hs = refl
-  done-said pins g es hs = refl
-  done-said unpins g es hs = refl
-  done-said asksEnd g es hs = refl
-  done-said reports g es hs = report-said (c .good) g hs
-  done-said starts g es hs = start-said (hasBatch (c .node) hs) g hs
-  done-said fills g es hs = refl
-  done-said takesTicket g es hs = refl
-  done-said asksTicket g es hs = refl
-  done-said asksTurn g es hs = refl
-
   done-as : (kind : Kind) → c .kind ≡ kind → (g : Ring) (es : List Entry) (hs : List Held)
       → Falling (doneBy kind c g es hs r s .state .next) (tell t c (doneBy kind c g es hs r s .said) .given)
   done-as kind e g es hs =
-      let o = doneBy kind c g es hs r s in
-      let u : tell t c (o .said) ≡ tellBy kind c (o .said .values) t =
-      ap (λ b. pick b (tellBy (c .kind) c (o .said .values) t) t) (done-said kind g es hs) ∙ ap (λ x. tellBy x c (o .said .values) t) e in
-      subst (λ x. Falling (o .state .next) (x .given)) (sym u) (done-falls kind e g es hs)
+      subst (λ x. Falling (doneBy kind c g es hs r s .state .next) (x .given)) (sym (told-done c r s t kind e g es hs)) (done-falls kind e g es hs)
 
   step-by : (x : Option Reason) → refusalOf c r s ≡ x → Falling (outcome c r s .state .next) (tell t c (outcome c r s .said) .given)
   unfolding outcome
@@ -105,3 +112,35 @@ numbers-rise W [] f = tt
 numbers-rise W (call c ∷ ms) f =
     step-by c (world W ms .ring) (world W ms .state) (tale W ms) (numbers-rise W ms (f .1)) (f .0 .not-made) (refusalOf c (world W ms .ring) (world W ms .state)) refl
 numbers-rise W (land k ∷ ms) f = numbers-rise W ms (f .1)
+
+-- no call but a restart takes a number back
+module _ (c : Call) (r : List ℕ) (s : State) (not-made : isOne c (makes ∷ []) ≡ false) (not-restart : isOne c (reopens ∷ []) ≡ false) where
+  report-next : (b : Bool) (g : Ring) (hs : List Held) → s .next ≤ reportDone b g hs r s .state .next
+  report-next true g hs = omega arith
+  report-next false g hs = omega arith
+
+  start-next : (b : Bool) (g : Ring) (hs : List Held) → s .next ≤ startDone b (c .node) g hs r s (c .buffer) .state .next
+  start-next true g hs = omega arith
+  start-next false g hs = omega arith
+
+  done-next : (kind : Kind) → c .kind ≡ kind → (g : Ring) (es : List Entry) (hs : List Held) → s .next ≤ doneBy kind c g es hs r s .state .next
+  done-next makes e g es hs = never (let w : true ≡ false = (rw e at not-made) in cc)
+  done-next reopens e g es hs = never (let w : true ≡ false = (rw e at not-restart) in cc)
+  done-next writes e g es hs = omega arith
+  done-next pins e g es hs = omega arith
+  done-next unpins e g es hs = omega arith
+  done-next asksEnd e g es hs = omega arith
+  done-next reports e g es hs = report-next (c .good) g hs
+  done-next starts e g es hs = start-next (hasBatch (c .node) hs) g hs
+  done-next fills e g es hs = omega arith
+  done-next takesTicket e g es hs = omega arith
+  done-next asksTicket e g es hs = omega arith
+  done-next asksTurn e g es hs = omega arith
+
+  next-by : (x : Option Reason) → refusalOf c r s ≡ x → s .next ≤ outcome c r s .state .next
+  unfolding outcome
+  next-by none o = rw o (done-next (c .kind) refl _ _ _)
+  next-by (some why) o = rw o (omega arith)
+
+  pub next-up : s .next ≤ outcome c r s .state .next
+  next-up = next-by (refusalOf c r s) refl
