@@ -1,9 +1,9 @@
 -- The mission's third demand, over every history: from an empty ring in any buffer of a valid length and any shore files, after any moves that keep the premises.
-use Prim.Native.Nat.{ℕ, _-_}
-use mathlib.Core.Path.{_≡_, refl, ap, _∙_}
-use mathlib.Core.Bool.{true}
-use mathlib.Core.List.{List, [], _∷_}
-use mathlib.Core.Option.{some}
+use Prim.Native.Nat.{ℕ, _+_, _-_}
+use mathlib.Core.Path.{_≡_, refl, sym, ap, _∙_}
+use mathlib.Core.Bool.{true, not}
+use mathlib.Core.List.{List, [], _∷_, _++_, append-nil}
+use mathlib.Core.Option.{none, some}
 use native.Mathlib.Omega.{arith}
 use lib.ListN.{length}
 use lib.Dec.{ltb}
@@ -11,18 +11,19 @@ use Rattle.layout.specs.Sizes.{slotsOf}
 use Rattle.layout.specs.Bytes.{both, round}
 use Rattle.reason.specs.declared.Reason.the-variants.{NoRoom, Unreadable, StateUnfit}
 use Rattle.layout.proofs.Tests.{sized-sound}
-use Rattle.walk.specs.Walk.{readingOf, writesOf}
+use Rattle.walk.specs.Walk.{Reading, readingOf, writesOf}
 use Rattle.store.specs.Store.{isMakeable, slotsFor, made}
 use Rattle.ring.specs.Ring.{emptyRing}
 use Rattle.ring.proofs.Laws.{readable-facts, made-reads}
-use Rattle.state.specs.Lists.{reopened}
+use Rattle.state.specs.Lists.{any, withNext, reopened}
+use Rattle.state.specs.Asks.{ticketDone}
 use Rattle.shore.specs.File.{lay, putsAll}
-use Rattle.rules.specs.Call.{Call, writes, isOne, ringOf, reopenRing}
+use Rattle.rules.specs.Call.{Call, writes, takesTicket, isOne, ringOf, entriesOf, heldOf, reopenRing}
 use Rattle.rules.specs.Refusals.{applies, refusalOf}
-use Rattle.rules.specs.Outcome.{says, outcomeBy, outcome}
+use Rattle.rules.specs.Outcome.{says, lentBy, outcomeBy, doneBy, outcome}
 use Rattle.rules.proofs.Staying.{reopened-stands, never-unreadable, never-unfit}
-use Rattle.history.specs.World.{World, Move, begins, world}
-use Rattle.history.specs.Tale.{Tale, slotsTaken, nothingYet, keep, isOf, tale}
+use Rattle.history.specs.World.{World, Move, call, begins, world}
+use Rattle.history.specs.Tale.{Tale, slotsTaken, nothingYet, numbersOf, keep, isOf, inReach, isGood, tell, tellBy, tale}
 use Rattle.history.specs.Fair.{AllFair}
 use Rattle.history.proofs.Pinning.{pins-none}
 use Rattle.history.proofs.Shores.{nothing-lost}
@@ -30,6 +31,9 @@ use Rattle.history.proofs.Agreeing.{Agrees}
 use Rattle.history.proofs.Changing.{standsAs}
 use Rattle.history.proofs.Restarting.{parted-held}
 use Rattle.history.proofs.Stepping.{agrees-move}
+use Rattle.history.proofs.Seeing.{ticket-seen}
+use Rattle.history.proofs.Starting.{held-below}
+use Rattle.history.proofs.Tickets.{Since, NoRestart, tale-suffix, later-since, asks-old}
 use Rattle.history.proofs.Room.{world-length, slots-taken}
 
 module _ (r : List ℕ) (makeable : isMakeable (length r) ≡ true) (files : ℕ → List ℕ) where
@@ -110,3 +114,63 @@ module _ (r : List ℕ) (makeable : isMakeable (length r) ≡ true) (files : ℕ
     pub reopens-same : outcome reopenRing (W .ring) (W .state) ≡ outcomeBy (says (reopened (agrees ms fair .stands .entries) .next ∷ [])) (reopened (agrees ms fair .stands .entries)) (W .ring)
     unfolding outcome refusalOf both
     reopens-same = rw (agrees ms fair .stands .reading)
+
+  -- ---- tickets: taken by the call c after some moves, and asked after later ones without a restart
+
+  module _ (earlier : List Move) (c : Call) (takes : c .kind ≡ takesTicket) (later : List Move) (fair : AllFair (begins r files) (later ++ call c ∷ earlier)) (calm : NoRestart later)
+      (granted : refusalOf c (world (begins r files) earlier .ring) (world (begins r files) earlier .state) ≡ none) where
+    abbrev W₀ : World
+    W₀ = world (begins r files) earlier
+
+    abbrev ticket : ℕ
+    ticket = world (begins r files) earlier .state .next
+
+    abbrev W₁ : World
+    W₁ = world (begins r files) (later ++ call c ∷ earlier)
+
+    abbrev t₁ : Tale
+    t₁ = tale (begins r files) (later ++ call c ∷ earlier)
+
+    fair-from : (ls : List Move) → AllFair (begins r files) (ls ++ call c ∷ earlier) → AllFair (begins r files) earlier
+    fair-from [] f = f .1
+    fair-from (m ∷ ls) f = fair-from ls (f .1)
+
+    done-is : (x : Reading) → doneBy (c .kind) c (ringOf x) (entriesOf x) (heldOf x (W₀ .state)) (W₀ .ring) (W₀ .state) ≡ doneBy takesTicket c (ringOf x) (entriesOf x) (heldOf x (W₀ .state)) (W₀ .ring) (W₀ .state)
+    done-is x = ap (λ kind. doneBy kind c (ringOf x) (entriesOf x) (heldOf x (W₀ .state)) (W₀ .ring) (W₀ .state)) takes
+
+    ticket-outcome : outcome c (W₀ .ring) (W₀ .state) ≡ lentBy (says (ticket ∷ [])) (withNext (W₀ .state) (ticket + 1)) (W₀ .ring) (c .buffer)
+    unfolding outcome
+    ticket-outcome = rw granted (done-is (readingOf (W₀ .ring)))
+
+    ticket-tale : tale (begins r files) (call c ∷ earlier) .held ≡ tale (begins r files) earlier .held
+    ticket-tale =
+        ap (λ o. tell (tale (begins r files) earlier) c (o .said) .held) ticket-outcome ∙ ap (λ kind. tellBy kind c (ticket ∷ []) (tale (begins r files) earlier) .held) takes
+
+    -- the writes accepted before the ticket: those that have left, and those that are held
+    pub ticket-since : Since (tale (begins r files) earlier .accepted) ticket (tale (begins r files) (later ++ call c ∷ earlier) .held)
+    ticket-since =
+        let f = fair-from later fair in
+        let u = tale-suffix (begins r files) earlier f in
+        let e = ticket-tale in
+        later-since (begins r files) (call c ∷ earlier) (tale (begins r files) earlier .accepted) ticket
+        (record {
+          gone = u .gone;
+          old = tale (begins r files) earlier .held;
+          new = [];
+          then = u .is;
+          now = e ∙ sym (append-nil (tale (begins r files) earlier .held));
+          below = held-below files W₀ (tale (begins r files) earlier) (agrees earlier f);
+          above = tt;
+        })
+        (let z = ap (λ o. o .state .next) ticket-outcome in omega arith) later fair calm
+
+    -- asked, it is done exactly when each of those in reach that is held has been in a batch reported good since the restart
+    pub ticket-is-done : (node : ℕ) → ticketDone ticket node (heldOf (readingOf (W₁ .ring)) (W₁ .state)) ≡ not (any (λ w. both (inReach node w) (not (isGood t₁ w))) (ticket-since .old))
+    ticket-is-done node =
+        let k = agrees (later ++ call c ∷ earlier) fair in
+        let f = round (W₁ .ring) (k .stands .ring .n) in
+        ap (λ x. ticketDone ticket node (heldOf x (W₁ .state))) (k .stands .reading) ∙ ap (ticketDone ticket node) (k .told)
+        ∙ ticket-seen f (t₁ .good) (numbersOf (t₁ .batch)) ticket node (k .stands .entries)
+        ∙ ap (λ ws. not (any (λ w. both (ltb (w .number) ticket) (both (inReach node w) (not (isGood t₁ w)))) ws)) (k .written)
+        ∙ ap not (asks-old (λ w. both (inReach node w) (not (isGood t₁ w))) ticket (tale (begins r files) earlier .accepted) (t₁ .held) ticket-since)
+

@@ -15,6 +15,6 @@ pub mod Landing
 pub mod Stepping
 pub mod Room
 pub mod Numbers
-pub mod Demand
 pub mod Changes
 pub mod Tickets
+pub mod Demand

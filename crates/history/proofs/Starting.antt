@@ -73,6 +73,15 @@ map-twice : (f : ℕ → ℕ) (ks : List Held) → map (writeOf f) (map entryOf 
 map-twice f [] = refl
 map-twice f (h ∷ ks) = ap (_∷_ (writeOf f (h .entry))) (map-twice f ks)
 
+-- numbers of held writes are below the next
+pub held-below : (files : ℕ → List ℕ) (W : World) (t : Tale) (k : Agrees files W t) → Each (λ w. w .number < W .state .next) (t .held)
+held-below files W t k =
+    let es = k .stands .entries in
+    let f = round (W .ring) (k .stands .ring .n) in
+    subst (Each (λ w. w .number < W .state .next)) (k .written)
+    (each-map (λ w. w .number < W .state .next) (writeOf f) es
+    (below-seen (W .state .next) (t .good) (numbersOf (t .batch)) es (rw (k .told) at (hs-fit (W .ring) (W .state) (k .stands) .numbers))))
+
 module _ (files : ℕ → List ℕ) (W : World) (t : Tale) (k : Agrees files W t) (c : Call) (v : Real c) (idle : W .state .flush ≤ 0) (l : W .state .next + 1 ≤ numberLimit)
     (some-wait : hasBatch (c .node) (holding (k .stands .entries) (listed (W .state))) ≡ true) where
   abbrev r : List ℕ
@@ -137,9 +146,7 @@ module _ (files : ℕ → List ℕ) (W : World) (t : Tale) (k : Agrees files W t
   grows ks o = each-by _ _ ks (λ n h. omega arith) o
 
   below : Each (λ w. w .number < s .next) (t .held)
-  below =
-      subst (Each (λ w. w .number < s .next)) (k .written)
-      (each-map (λ w. w .number < s .next) (writeOf f) es (below-seen (s .next) (t .good) (numbersOf (t .batch)) es (rw (k .told) at (hs-fit r s (k .stands) .numbers))))
+  below = held-below files W t k
 
   below-taken : Each (λ n. n < s .next) (numbersOf batch)
   below-taken = each-map (λ n. n < s .next) (λ w. w .number) batch (each-take (λ w. w .number < s .next) mostBatch (keep (isOpen (c .node) (t .good)) (t .held)) (keep-each (λ w. w .number < s .next) (isOpen (c .node) (t .good)) (t .held) below))
