@@ -17,4 +17,5 @@ pub mod Room
 pub mod Numbers
 pub mod Changes
 pub mod Tickets
+pub mod Marks
 pub mod Demand
