@@ -10,7 +10,6 @@ use Rattle.layout.proofs.Tests.{never}
 use Rattle.walk.specs.declared.Entry.{Entry}
 use Rattle.walk.specs.Walk.{Write}
 use Rattle.state.specs.declared.State.{State}
-use Rattle.state.specs.declared.Pin.{Pin}
 use Rattle.state.specs.declared.Held.{Held}
 use Rattle.rules.specs.Call.{Call, Kind, makes, reopens, writes, pins, unpins, asksEnd, reports, starts, fills, takesTicket, asksTicket, asksTurn, isOne}
 use Rattle.rules.specs.Flush.{hasBatch}
@@ -23,11 +22,11 @@ use Rattle.history.proofs.Stepping.{refused-not}
 pub data Change (s : State) (t u : Tale) : Type 0 where
   stays : u .accepted ≡ t .accepted → u .held ≡ t .held → Change s t u
   grew : (w : Write) → w .number ≡ s .next → u .accepted ≡ t .accepted ++ w ∷ [] → u .held ≡ t .held ++ w ∷ [] → Change s t u
-  letGo : (good : List ℕ) (ps : List Pin) → u .accepted ≡ t .accepted → u .held ≡ leave good ps (t .held) → Change s t u
+  letGo : (good : List ℕ) → u .accepted ≡ t .accepted → u .held ≡ leave good (u .live) (t .held) → Change s t u
 
 module _ (c : Call) (r : List ℕ) (s : State) (t : Tale) (not-made : isOne c (makes ∷ []) ≡ false) where
   report-changes : (b : Bool) → c .good ≡ b → (g : Ring) (hs : List Held) → Change s t (tellBy reports c (reportDone b g hs r s .said .values) t)
-  report-changes true z g hs = rw z (letGo _ (t .live) refl refl)
+  report-changes true z g hs = rw z (letGo _ refl refl)
   report-changes false z g hs = rw z (stays refl refl)
 
   start-changes : (b : Bool) (g : Ring) (hs : List Held) → Change s t (tellBy starts c (startDone b (c .node) g hs r s (c .buffer) .said .values) t)
@@ -39,7 +38,7 @@ module _ (c : Call) (r : List ℕ) (s : State) (t : Tale) (not-made : isOne c (m
   done-changes reopens e g es hs = stays refl refl
   done-changes writes e g es hs = grew (record { number = s .next; node = c .node; handle = c .handle; offset = c .offset; bytes = c .bytes }) refl refl refl
   done-changes pins e g es hs = stays refl refl
-  done-changes unpins e g es hs = letGo (t .good) _ refl refl
+  done-changes unpins e g es hs = letGo (t .good) refl refl
   done-changes asksEnd e g es hs = stays refl refl
   done-changes reports e g es hs = report-changes (c .good) refl g hs
   done-changes starts e g es hs = start-changes (hasBatch (c .node) hs) g hs

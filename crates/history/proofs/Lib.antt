@@ -18,4 +18,5 @@ pub mod Numbers
 pub mod Changes
 pub mod Tickets
 pub mod Marks
+pub mod Pinned
 pub mod Demand

@@ -123,7 +123,7 @@ module _ (before : List Write) (n : ℕ) where
   since-by : (s : State) (t u : Tale) → n < s .next → Change s t u → Since before n (t .held) → Since before n (u .held)
   since-by s t u h (stays a b) k = since-same (t .held) (u .held) b k
   since-by s t u h (grew w e a b) k = since-same (t .held ++ w ∷ []) (u .held) b (since-writes (t .held) w (omega arith) k)
-  since-by s t u h (letGo good ps a b) k = since-same (leave good ps (t .held)) (u .held) b (since-leaves good ps (t .held) k)
+  since-by s t u h (letGo good a b) k = since-same (leave good (u .live) (t .held)) (u .held) b (since-leaves good (u .live) (t .held) k)
 
 -- ---- what is held is the end of what was accepted
 
@@ -135,9 +135,9 @@ suffix-by : (s : State) (t u : Tale) → Change s t u → Suffix t → Suffix u
 suffix-by s t u (stays a b) k = record { gone = k .gone; is = a ∙ k .is ∙ ap (_++_ (k .gone)) (sym b) }
 suffix-by s t u (grew w e a b) k =
     record { gone = k .gone; is = a ∙ ap (_++ w ∷ []) (k .is) ∙ append-assoc (k .gone) (t .held) (w ∷ []) ∙ ap (_++_ (k .gone)) (sym b) }
-suffix-by s t u (letGo good ps a b) k =
-    let p = parts good ps [] (t .held) in
-    let e : t .held ≡ p .off ++ leave good ps (t .held) = p .news ∙ ap (_++_ (p .off)) (sym (p .left ∙ nothing (p .old′) (p .gone) (p .olds) (p .new′))) in
+suffix-by s t u (letGo good a b) k =
+    let p = parts good (u .live) [] (t .held) in
+    let e : t .held ≡ p .off ++ leave good (u .live) (t .held) = p .news ∙ ap (_++_ (p .off)) (sym (p .left ∙ nothing (p .old′) (p .gone) (p .olds) (p .new′))) in
     record { gone = k .gone ++ p .off; is = a ∙ k .is ∙ ap (_++_ (k .gone)) (e ∙ ap (_++_ (p .off)) (sym b)) ∙ sym (append-assoc (k .gone) (p .off) (u .held)) }
   where
     nothing : (old gone : List Write) → [] ≡ gone ++ old → (new : List Write) → old ++ new ≡ new
