@@ -19,4 +19,5 @@ pub mod Changes
 pub mod Tickets
 pub mod Marks
 pub mod Pinned
+pub mod Reaching
 pub mod Demand
