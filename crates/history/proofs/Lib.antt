@@ -20,4 +20,5 @@ pub mod Tickets
 pub mod Marks
 pub mod Pinned
 pub mod Reaching
+pub mod Filling
 pub mod Demand

@@ -158,19 +158,20 @@ NoRestart [] = Unit {0}
 NoRestart (call c ∷ ms) = (isOne c (reopens ∷ []) ≡ false) × NoRestart ms
 NoRestart (land j ∷ ms) = NoRestart ms
 
-module _ (W : World) (base : List Move) (before : List Write) (n : ℕ) (k : Since before n (tale W base .held)) (h : n < world W base .state .next) where
-  later-next : (later : List Move) → AllFair W (later ++ base) → NoRestart later → n < world W (later ++ base) .state .next
-  later-next [] f d = h
-  later-next (call c ∷ ms) f d =
-      let u = next-up c (world W (ms ++ base) .ring) (world W (ms ++ base) .state) (f .0 .not-made) (d .0) in
-      let v = later-next ms (f .1) (d .1) in
-      omega arith
-  later-next (land j ∷ ms) f d = later-next ms (f .1) d
+-- numbers given before them are below the next
+pub later-next : (W : World) (base : List Move) (n : ℕ) → n < world W base .state .next → (later : List Move) → AllFair W (later ++ base) → NoRestart later → n < world W (later ++ base) .state .next
+later-next W base n h [] f d = h
+later-next W base n h (call c ∷ ms) f d =
+    let u = next-up c (world W (ms ++ base) .ring) (world W (ms ++ base) .state) (f .0 .not-made) (d .0) in
+    let v = later-next W base n h ms (f .1) (d .1) in
+    omega arith
+later-next W base n h (land j ∷ ms) f d = later-next W base n h ms (f .1) d
 
+module _ (W : World) (base : List Move) (before : List Write) (n : ℕ) (k : Since before n (tale W base .held)) (h : n < world W base .state .next) where
   pub later-since : (later : List Move) → AllFair W (later ++ base) → NoRestart later → Since before n (tale W (later ++ base) .held)
   later-since [] f d = k
   later-since (call c ∷ ms) f d =
-      since-by before n (world W (ms ++ base) .state) (tale W (ms ++ base)) _ (later-next ms (f .1) (d .1))
+      since-by before n (world W (ms ++ base) .state) (tale W (ms ++ base)) _ (later-next W base n h ms (f .1) (d .1))
       (change c (world W (ms ++ base) .ring) (world W (ms ++ base) .state) (tale W (ms ++ base)) (f .0 .not-made)) (later-since ms (f .1) (d .1))
   later-since (land j ∷ ms) f d = let z = later-since ms (f .1) d in record { gone = z .gone; old = z .old; new = z .new; then = z .then; now = z .now; below = z .below; above = z .above }
 
