@@ -22,3 +22,4 @@ pub mod Pinned
 pub mod Reaching
 pub mod Filling
 pub mod Demand
+pub mod Claim

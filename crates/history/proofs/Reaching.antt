@@ -66,7 +66,7 @@ module _ (node m : ℕ) where
   from-is : (ws : List Write) → from ws ≡ keep high (ofNode node ws)
   from-is ws = keep-twice (isOf node) high ws
 
-  abbrev early : List Write → List Write
+  abbrev pub early : List Write → List Write
   early ws = keep (λ w. not (high w)) (ofNode node ws)
 
   pub parted-from : (last : ℕ) (ws : List Write) → InOrder last ws → putsAll (ofNode node ws) ≡ putsAll (early ws) ++ putsAll (from ws)
