@@ -1,23 +1,23 @@
 -- The fill claim, over every history: for a pin that is live at the fill, bytes fetched from the shore at one moment after the pin, and no restart between, the r bytes are
 -- those of the history's file at the moment of the fill, and r is the lesser of n and what that file has from the offset. Document 01, "Moves", paragraph "Fill".
-use Prim.Native.Nat.{ℕ, _+_, _-_, _*_, _<_}
+use Prim.Native.Nat.{ℕ, _+_, _-_, _*_, _≤_, _<_}
 use mathlib.Core.Path.{_≡_, refl, sym, ap, _∙_, subst}
 use mathlib.Core.Bool.{Bool, true, false}
 use mathlib.Core.List.{List, [], _∷_, _++_, map}
 use mathlib.Core.Option.{none}
 use native.Mathlib.Omega.{arith}
 use lib.ListN.{length, getD}
-use lib.Dec.{eqb}
+use borrow.Author.Tests.{leb-false}
+use lib.Dec.{eqb, leb}
 use Rattle.layout.specs.Sizes.{slotSize, headSize}
 use Rattle.layout.specs.Bytes.{round}
 use Rattle.layout.proofs.Views.{bytes-length}
 use Rattle.walk.specs.declared.Entry.{Entry}
-use Rattle.walk.specs.Walk.{readingOf, Write, writeOf}
+use Rattle.walk.specs.Walk.{Write, writeOf}
 use Rattle.walk.proofs.Chain.{AllInRing}
 use Rattle.store.specs.Store.{isMakeable}
 use Rattle.ring.proofs.Laws.{readable-facts}
 use Rattle.state.specs.declared.Pin.{Pin}
-use Rattle.state.specs.declared.Held.{Held}
 use Rattle.state.specs.Lists.{pick, listed, holding, entryOf}
 use Rattle.state.specs.Pins.{those}
 use Rattle.state.specs.Asks.{cachedEnd}
@@ -30,8 +30,7 @@ use Rattle.rules.specs.Fill.{isOf, writesFor, fillCount, filled}
 use Rattle.rules.specs.Refusals.{refusalOf}
 use Rattle.rules.specs.Outcome.{says, lentBy, outcome}
 use Rattle.history.specs.World.{World, Move, call, land, begins, world}
-use Rattle.history.specs.Tale.{Tale, numbersOf, keep, tale}
-use Rattle.history.specs.Tale as told
+use Rattle.history.specs.Tale.{Tale, numbersOf, tale}
 use Rattle.history.specs.Fair.{AllFair}
 use Rattle.history.proofs.Seeing.{seen, cached-seen}
 use Rattle.history.proofs.Shores.{fileOf, ofNode}
@@ -128,3 +127,54 @@ module _ (r : List ℕ) (makeable : isMakeable (length r) ≡ true) (files : ℕ
       ap (lay S) e
       ∙ absorb S file (putsAll (early (p .node) (p .mark) (t .held))) (putsAll (from (p .node) (p .mark) (t .held))) (since later fair calm live-now)
       (ap (lay file) (sym e) ∙ k .on-shore .has (p .node))
+
+  -- ---- the fill itself
+
+  abbrev es : List Entry
+  es = k .stands .entries
+
+  abbrev f : ℕ → ℕ
+  f = round (world (begins r files) (later ++ base) .ring) (k .stands .ring .n)
+
+  holds : map (writeOf f) es ≡ t .held
+  holds = k .written
+
+  own-writes : writesFor (p .node) (W .ring) (k .stands .ring) (holding es (listed (W .state))) ≡ ws
+  own-writes =
+      ap (λ hs. map (writeOf f) (map entryOf (those (isOf (p .node)) hs))) (k .told) ∙ those-seen f (p .node) (t .good) (numbersOf (t .batch)) es ∙ ap (ofNode (p .node)) holds
+
+  own-end : cachedEnd (p .node) (holding es (listed (W .state))) ≡ endOf ws
+  own-end = ap (cachedEnd (p .node)) (k .told) ∙ cached-seen f (t .good) (numbersOf (t .batch)) (p .node) es ∙ ap (λ xs. endOf (ofNode (p .node) xs)) holds
+
+  some-bytes : Each (λ w. 0 < length (w .bytes)) ws
+  some-bytes =
+      subst (λ xs. Each (λ w. 0 < length (w .bytes)) (ofNode (p .node) xs)) holds
+      (bytes-some f (k .stands .ring .n) (p .node) es (readable-facts (W .ring) (k .stands .ring) es (k .stands .reading) .inside))
+
+  -- g is "the lesser of n and what the file has from that offset", and the bytes before g are that file's
+  module _ (offset g : ℕ) (buffer : List ℕ) (granted : refusalOf (fillRead (p .number) (p .node) offset g buffer) (W .ring) (W .state) ≡ none)
+      (lesser-is : g ≡ lesser (length buffer) (length S - offset)) (fetched : (i : ℕ) → i < g → getD buffer i 0 ≡ getD S (offset + i) 0) where
+    abbrev pub count : ℕ
+    count = fillCount (length buffer) g offset (endOf ws)
+
+    abbrev pub after : List ℕ
+    after = filled ws offset g (fillCount (length buffer) g offset (endOf ws)) buffer
+
+    pub fill-outcome : outcome (fillRead (p .number) (p .node) offset g buffer) (W .ring) (W .state) ≡ lentBy (says (count ∷ [])) (W .state) (W .ring) after
+    unfolding outcome
+    fill-outcome = rw (granted, k .stands .reading, own-writes, own-end) refl
+
+    -- r is the lesser of n and what the history's file has from the offset
+    pub fill-count : count ≡ lesser (length buffer) (length file - offset)
+    fill-count = claim-count S ws some-bytes offset g buffer lesser-is fetched ∙ ap (λ x. lesser (length buffer) (length x - offset)) over
+
+    within : count ≤ length buffer
+    within = subst (_≤ length buffer) (sym fill-count) (at (leb (length buffer) (length file - offset)) refl)
+      where
+        at : (b : Bool) → leb (length buffer) (length file - offset) ≡ b → pick b (length buffer) (length file - offset) ≤ length buffer
+        at true e = omega arith
+        at false e = let h = leb-false (length buffer) (length file - offset) e in omega arith
+
+    -- and the r bytes are those of the history's file
+    pub fill-bytes : (i : ℕ) → i < count → getD after i 0 ≡ getD file (offset + i) 0
+    fill-bytes i h = claim-bytes S ws some-bytes offset g buffer lesser-is fetched count i h (let w = within in omega arith) ∙ ap (λ x. getD x (offset + i) 0) over

@@ -173,4 +173,3 @@ module _ (r : List ℕ) (makeable : isMakeable (length r) ≡ true) (files : ℕ
         ∙ ticket-seen f (t₁ .good) (numbersOf (t₁ .batch)) ticket node (k .stands .entries)
         ∙ ap (λ ws. not (any (λ w. both (ltb (w .number) ticket) (both (inReach node w) (not (isGood t₁ w)))) ws)) (k .written)
         ∙ ap not (asks-old (λ w. both (inReach node w) (not (isGood t₁ w))) ticket (tale (begins r files) earlier .accepted) (t₁ .held) ticket-since)
-

@@ -2,7 +2,7 @@
 use Prim.Native.Nat.{ℕ, _+_, _≤_, _<_}
 use mathlib.Core.Path.{_≡_, refl, sym, ap, _∙_, subst}
 use mathlib.Core.Bool.{Bool, true, false, not}
-use mathlib.Core.List.{List, [], _∷_, _++_, map}
+use mathlib.Core.List.{List, [], _∷_, _++_}
 use mathlib.Core.Option.{Option, none, some}
 use native.Mathlib.Omega.{arith}
 use borrow.Author.Tests.{leb-true, leb-false}
@@ -16,7 +16,7 @@ use Rattle.walk.specs.Walk.{Write}
 use Rattle.state.specs.declared.State.{State}
 use Rattle.state.specs.declared.Pin.{Pin}
 use Rattle.state.specs.declared.Held.{Held}
-use Rattle.state.specs.Lists.{pick, any}
+use Rattle.state.specs.Lists.{pick}
 use Rattle.state.proofs.Bools.{both-intro}
 use Rattle.state.proofs.Pairs.{any-append}
 use Rattle.state.proofs.Finding.{Each, each-by, each-join, each-right}
@@ -56,9 +56,11 @@ least-each own q (w ∷ ws) = at (q w) refl (least-each own q ws)
   where
     lower : (m k : ℕ) → m ≤ k → (vs : List Write) → Each (λ v. q v ≡ true → k ≤ v .number) vs → Each (λ v. q v ≡ true → m ≤ v .number) vs
     lower m k h vs o = each-by _ _ vs (λ v u z. let l = u z in omega arith) o
+
     first : (b : Bool) → leb (w .number) (least own (keep q ws)) ≡ b → (pick b (w .number) (least own (keep q ws)) ≤ w .number) × (pick b (w .number) (least own (keep q ws)) ≤ least own (keep q ws))
     first true e = (omega arith, leb-true (w .number) (least own (keep q ws)) e)
     first false e = (let l = leb-false (w .number) (least own (keep q ws)) e in omega arith, omega arith)
+
     at : (b : Bool) → q w ≡ b → Each (λ v. q v ≡ true → least own (keep q ws) ≤ v .number) ws → Each (λ v. q v ≡ true → least own (pick b (w ∷ keep q ws) (keep q ws)) ≤ v .number) (w ∷ ws)
     at true e o =
         let f = first (leb (w .number) (least own (keep q ws))) refl in

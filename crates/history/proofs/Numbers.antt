@@ -16,7 +16,7 @@ use Rattle.state.specs.Lists.{pick}
 use Rattle.rules.specs.Call.{Call, Kind, makes, reopens, writes, pins, unpins, asksEnd, reports, starts, fills, takesTicket, asksTicket, asksTurn, isOne}
 use Rattle.rules.specs.Flush.{hasBatch}
 use Rattle.rules.specs.Refusals.{refusalOf}
-use Rattle.rules.specs.Outcome.{Outcome, refuses, lentBy, reportDone, startDone, doneBy, outcome}
+use Rattle.rules.specs.Outcome.{refuses, lentBy, reportDone, startDone, doneBy, outcome}
 use Rattle.history.specs.World.{World, Move, call, land, isDone, world}
 use Rattle.history.specs.Tale.{Tale, tell, tellBy, tale}
 use Rattle.history.specs.Fair.{AllFair}

@@ -1,26 +1,25 @@
 -- Since a pin was given, the ring laid over any shore file seen after it is the history's file: what the pin reaches from its mark on stays.
-use Prim.Native.Nat.{ℕ, _+_, _≤_, _<_}
+use Prim.Native.Nat.{ℕ, _+_, _<_}
 use mathlib.Core.Path.{_≡_, refl, sym, ap, _∙_, subst}
-use mathlib.Core.Bool.{Bool, true, false, not}
+use mathlib.Core.Bool.{Bool, true, false}
 use mathlib.Core.List.{List, [], _∷_, _++_}
 use mathlib.Core.Option.{Option, none, some}
 use native.Mathlib.Omega.{arith}
-use borrow.Author.Tests.{eqb-true, ne-eqb, le-leb, lt-leb, leb-true}
-use lib.Dec.{eqb, leb}
+use borrow.Author.Tests.{eqb-true, ne-eqb}
+use lib.Dec.{eqb}
 use Rattle.reason.specs.declared.Reason.{Reason}
 use Rattle.layout.specs.Bytes.{both}
 use Rattle.layout.specs.declared.Ring.{Ring}
-use Rattle.layout.proofs.Tests.{never, both-left, both-right, true-not-false}
+use Rattle.layout.proofs.Tests.{never, both-left, both-right}
 use Rattle.walk.specs.declared.Entry.{Entry}
-use Rattle.walk.specs.Walk.{Write}
 use Rattle.state.specs.declared.State.{State}
 use Rattle.state.specs.declared.Pin.{Pin}
 use Rattle.state.specs.declared.Held.{Held}
 use Rattle.state.specs.Lists.{pick, any}
-use Rattle.state.proofs.Bools.{no-both, both-no, yes-both, both-intro}
+use Rattle.state.proofs.Bools.{no-both}
 use Rattle.state.proofs.Pairs.{any-append}
-use Rattle.state.proofs.Finding.{Each, each-by}
-use Rattle.rules.specs.Call.{Call, Kind, makes, reopens, writes, pins, unpins, asksEnd, reports, starts, fills, takesTicket, asksTicket, asksTurn, isOne}
+use Rattle.state.proofs.Finding.{Each}
+use Rattle.rules.specs.Call.{Call, Kind, makes, reopens, writes, pins, unpins, asksEnd, reports, starts, fills, takesTicket, asksTicket, asksTurn}
 use Rattle.rules.specs.Flush.{hasBatch}
 use Rattle.rules.specs.Refusals.{refusalOf}
 use Rattle.rules.specs.Outcome.{reportDone, startDone, doneBy, outcome}
@@ -64,6 +63,7 @@ in-any q p (x ∷ live) h e = at (samePin p x) refl e (in-any q p live h)
     last : (a : Bool) → any q live ≡ true → pick a true (any q live) ≡ true
     last true z = refl
     last false z = z
+
     at : (b : Bool) → samePin p x ≡ b → pick b true (isLiveIn p live) ≡ true → (isLiveIn p live ≡ true → any q live ≡ true) → pick (q x) true (any q live) ≡ true
     at true z y k = ap (λ u. pick u true (any q live)) (ap q (same-pin p x z) ∙ h)
     at false z y k = last (q x) (k y)

@@ -1,27 +1,27 @@
 -- From a fetch on: a shore file seen while a pin is live, with the node's held writes laid over it, stays the history's file.
 use Prim.Native.Nat.{ℕ, _+_, _≤_, _<_}
-use mathlib.Core.Path.{_≡_, refl, sym, ap, _∙_, subst}
+use mathlib.Core.Path.{_≡_, refl, sym, ap, _∙_}
 use mathlib.Core.Bool.{Bool, true, false, not}
 use mathlib.Core.List.{List, [], _∷_, _++_}
 use native.Mathlib.Omega.{arith}
-use borrow.Author.Tests.{eqb-true, eq-eqb, le-leb, lt-leb, leb-true, leb-false}
+use borrow.Author.Tests.{le-leb, leb-true}
 use lib.Dec.{eqb, leb}
 use Rattle.layout.specs.Bytes.{both}
-use Rattle.layout.proofs.Tests.{never, both-left, both-right, true-not-false}
+use Rattle.layout.proofs.Tests.{both-left, both-right, true-not-false}
 use Rattle.walk.specs.Walk.{Write}
 use Rattle.state.specs.declared.State.{State}
 use Rattle.state.specs.declared.Pin.{Pin}
-use Rattle.state.specs.Lists.{pick, any}
-use Rattle.state.proofs.Bools.{no-both, both-no, yes-both, both-yes, both-intro}
+use Rattle.state.specs.Lists.{pick}
+use Rattle.state.proofs.Bools.{both-yes, both-intro}
 use Rattle.state.proofs.Finding.{Each, each-by}
 use Rattle.shore.specs.File.{lay, putsAll}
 use Rattle.shore.proofs.Files.{lay-append}
 use Rattle.shore.proofs.Again.{absorb, has-end}
 use Rattle.history.specs.Tale.{Tale, among, inReach, isOf, keep, leave, isPinned}
-use Rattle.history.proofs.Shores.{keep-append, keep-none, keep-same, puts-append, OnShore, Parted, fileOf, ofNode, sure, waits, waiting}
+use Rattle.history.proofs.Shores.{keep-append, keep-none, puts-append, OnShore, Parted, fileOf, ofNode, sure, waits, waiting}
 use Rattle.history.proofs.Rising.{InOrder, order-above, order-keep}
 use Rattle.history.proofs.Changes.{Change, stays, grew, letGo}
-use Rattle.history.proofs.Marks.{stillWaits, Marked}
+use Rattle.history.proofs.Marks.{stillWaits}
 use Rattle.history.proofs.Pinned.{isLiveIn, in-any}
 
 -- ---- lists kept

@@ -1,10 +1,9 @@
 -- The ring's size never changes, and the slots in use are those of the writes that must be held.
-use Prim.Native.Nat.{ℕ, _+_, _-_, _*_, _≤_}
+use Prim.Native.Nat.{ℕ, _+_, _-_, _*_}
 use mathlib.Core.Path.{_≡_, refl, sym, ap, _∙_}
 use mathlib.Core.Bool.{Bool, true, false}
 use mathlib.Core.List.{List, [], _∷_, map}
 use mathlib.Core.Option.{Option, none, some}
-use native.Mathlib.Omega.{arith}
 use lib.ListN.{length, length-set}
 use Rattle.reason.specs.declared.Reason.{Reason}
 use Rattle.layout.specs.Sizes.{slotSize, headSize, slotsOf}
@@ -14,16 +13,16 @@ use Rattle.layout.proofs.Tests.{never}
 use Rattle.layout.proofs.Views.{bytes-length}
 use Rattle.layout.proofs.Puts.{length-put}
 use Rattle.walk.specs.declared.Entry.{Entry}
-use Rattle.walk.specs.Walk.{readingOf, slotsUsed, writeOf}
+use Rattle.walk.specs.Walk.{slotsUsed, writeOf}
 use Rattle.store.specs.Store.{entryBytes, tailAfter, stored, headMoved}
 use Rattle.state.specs.declared.State.{State}
 use Rattle.state.specs.declared.Held.{Held}
 use Rattle.rules.specs.Call.{Call, Kind, makes, reopens, writes, pins, unpins, asksEnd, reports, starts, fills, takesTicket, asksTicket, asksTurn, isOne}
 use Rattle.rules.specs.Flush.{hasBatch}
 use Rattle.rules.specs.Refusals.{refusalOf}
-use Rattle.rules.specs.Outcome.{reportDone, startDone, doneBy, done, outcome}
+use Rattle.rules.specs.Outcome.{reportDone, startDone, doneBy, outcome}
 use Rattle.history.specs.World.{World, Move, call, land, world}
-use Rattle.history.specs.Tale.{slotsTaken, tale}
+use Rattle.history.specs.Tale.{slotsTaken}
 use Rattle.history.specs.Fair.{AllFair}
 
 -- ---- no call but making changes the length of the ring

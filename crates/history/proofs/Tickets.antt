@@ -3,28 +3,21 @@
 use Prim.Native.Nat.{ℕ, _+_, _<_}
 use mathlib.Core.Path.{_≡_, refl, sym, ap, _∙_, subst}
 use mathlib.Core.Bool.{Bool, true, false, not}
-use mathlib.Core.List.{List, [], _∷_, _++_, map, append-assoc}
-use mathlib.Core.Option.{Option, none, some}
+use mathlib.Core.List.{List, [], _∷_, _++_, append-assoc}
+use mathlib.Core.Option.{none}
 use native.Mathlib.Omega.{arith}
 use borrow.Author.Tests.{lt-ltb, le-ltb}
 use lib.Dec.{ltb}
-use Rattle.reason.specs.declared.Reason.{Reason}
 use Rattle.layout.specs.Bytes.{both}
-use Rattle.layout.specs.declared.Ring.{Ring}
 use Rattle.layout.proofs.Tests.{never}
-use Rattle.walk.specs.declared.Entry.{Entry}
 use Rattle.walk.specs.Walk.{Write}
 use Rattle.state.specs.declared.State.{State}
 use Rattle.state.specs.declared.Pin.{Pin}
-use Rattle.state.specs.declared.Held.{Held}
 use Rattle.state.specs.Lists.{pick, any}
 use Rattle.state.proofs.Bools.{no-both, yes-both}
 use Rattle.state.proofs.Pairs.{any-append}
 use Rattle.state.proofs.Finding.{Each, each-join, each-right}
-use Rattle.rules.specs.Call.{Call, Kind, makes, reopens, writes, pins, unpins, asksEnd, reports, starts, fills, takesTicket, asksTicket, asksTurn, isOne}
-use Rattle.rules.specs.Flush.{hasBatch}
-use Rattle.rules.specs.Refusals.{refusalOf}
-use Rattle.rules.specs.Outcome.{reportDone, startDone, doneBy, outcome}
+use Rattle.rules.specs.Call.{reopens, writes, isOne}
 use Rattle.history.specs.Tale.{Tale, among, leave, isPinned, tale}
 use Rattle.history.specs.World.{World, Move, call, land, world}
 use Rattle.history.specs.Fair.{AllFair}
@@ -194,4 +187,3 @@ module _ (q : Write → Bool) (n : ℕ) where
       same : (b : Bool) → pick b true false ≡ b
       same true = refl
       same false = refl
-
