@@ -1,3 +1,4 @@
+pub mod Keeping
 pub mod Shores
 pub mod Seeing
 pub mod Pinning

@@ -27,6 +27,7 @@ use Rattle.rules.specs.Outcome.{reportDone, startDone, doneBy, outcome}
 use Rattle.history.specs.World.{World, Move, call, land, world}
 use Rattle.history.specs.Tale.{Tale, among, numbersOf, inReach, keep, least, leave, pinOf, tell, tellBy, tale}
 use Rattle.history.specs.Fair.{AllFair}
+use Rattle.history.proofs.Keeping.{each-keep}
 use Rattle.history.proofs.Numbers.{told-done}
 use Rattle.history.proofs.Stepping.{refused-not}
 use Rattle.history.proofs.Tickets.{parts}
@@ -107,14 +108,6 @@ abbrev pub AllMarked : ℕ → Tale → Type 0
 AllMarked next t = Each (Marked next (t .good) (t .held)) (t .live)
 
 -- ---- every call keeps it
-
-each-keep : {A : Type 0} (P : A → Type 0) (q : A → Bool) (xs : List A) → Each P xs → Each P (keep q xs)
-each-keep P q [] o = tt
-each-keep P q (x ∷ xs) o = at (q x) (each-keep P q xs (o .1))
-  where
-    at : (b : Bool) → Each P (keep q xs) → Each P (pick b (x ∷ keep q xs) (keep q xs))
-    at true k = (o .0, k)
-    at false k = k
 
 module _ (c : Call) (r : List ℕ) (s : State) (t : Tale) (k : AllMarked (s .next) t) (not-made : isOne c (makes ∷ []) ≡ false) where
   one-more : AllMarked (s .next + 1) t

@@ -18,28 +18,12 @@ use Rattle.shore.specs.File.{lay, putsAll}
 use Rattle.shore.proofs.Files.{lay-append}
 use Rattle.shore.proofs.Again.{absorb, has-end}
 use Rattle.history.specs.Tale.{Tale, among, inReach, isOf, keep, leave, isPinned}
-use Rattle.history.proofs.Shores.{keep-append, keep-none, puts-append, OnShore, Parted, fileOf, ofNode, sure, waits, waiting}
+use Rattle.history.proofs.Keeping.{keep-append, keep-none, keep-all, keep-both}
+use Rattle.history.proofs.Shores.{puts-append, OnShore, Parted, fileOf, ofNode, sure, waits, waiting}
 use Rattle.history.proofs.Rising.{InOrder, order-above, order-keep}
 use Rattle.history.proofs.Changes.{Change, stays, grew, letGo}
 use Rattle.history.proofs.Marks.{stillWaits}
 use Rattle.history.proofs.Pinned.{isLiveIn, in-any}
-
--- ---- lists kept
-
-keep-twice : (p q : Write → Bool) (ws : List Write) → keep (λ w. both (p w) (q w)) ws ≡ keep q (keep p ws)
-unfolding both
-keep-twice p q [] = refl
-keep-twice p q (w ∷ ws) = at (p w) (q w) refl (keep-twice p q ws)
-  where
-    at : (x y : Bool) → q w ≡ y → keep (λ w. both (p w) (q w)) ws ≡ keep q (keep p ws)
-        → pick (both x y) (w ∷ keep (λ w. both (p w) (q w)) ws) (keep (λ w. both (p w) (q w)) ws) ≡ keep q (pick x (w ∷ keep p ws) (keep p ws))
-    at true true z e = rw z (ap (_∷_ w) e)
-    at true false z e = rw z e
-    at false y z e = e
-
-pub keep-all : (q : Write → Bool) (ws : List Write) → Each (λ w. q w ≡ true) ws → keep q ws ≡ ws
-keep-all q [] u = refl
-keep-all q (w ∷ ws) u = rw (u .0) (ap (_∷_ w) (keep-all q ws (u .1)))
 
 module _ (node m : ℕ) where
   abbrev high : Write → Bool
@@ -64,7 +48,7 @@ module _ (node m : ℕ) where
           rw (n, keep-all high ws a) refl
 
   from-is : (ws : List Write) → from ws ≡ keep high (ofNode node ws)
-  from-is ws = keep-twice (isOf node) high ws
+  from-is ws = keep-both (isOf node) high ws
 
   abbrev pub early : List Write → List Write
   early ws = keep (λ w. not (high w)) (ofNode node ws)

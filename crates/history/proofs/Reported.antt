@@ -21,7 +21,8 @@ use Rattle.sheet.specs.Sheet.{sheetOf, putsIn}
 use Rattle.sheet.proofs.Laying.{sheet-lays}
 use Rattle.history.specs.World.{nth}
 use Rattle.history.specs.Tale.{Tale, among, numbersOf, isOf, keep}
-use Rattle.history.proofs.Shores.{keep-append, keep-none, keep-same, waits, waiting}
+use Rattle.history.proofs.Keeping.{keep-append, keep-none, keep-same, keep-all, keep-both}
+use Rattle.history.proofs.Shores.{waits, waiting}
 use Rattle.history.proofs.Agreeing.{Stood, SheetOut}
 
 -- ---- puts that stand change nothing
@@ -65,21 +66,6 @@ module _ (sheet : List ℕ) (shore : ℕ → List ℕ) (t : Tale) (o : SheetOut 
       at true true = refl
       at true false = refl
       at false y = refl
-
-  keep-both : (p q : Write → Bool) (ws : List Write) → keep (λ w. both (p w) (q w)) ws ≡ keep q (keep p ws)
-  unfolding both
-  keep-both p q [] = refl
-  keep-both p q (w ∷ ws) = at (p w) (q w) refl (keep-both p q ws)
-    where
-      at : (x y : Bool) → q w ≡ y → keep (λ w. both (p w) (q w)) ws ≡ keep q (keep p ws)
-          → pick (both x y) (w ∷ keep (λ w. both (p w) (q w)) ws) (keep (λ w. both (p w) (q w)) ws) ≡ keep q (pick x (w ∷ keep p ws) (keep p ws))
-      at true true z e = rw z (ap (_∷_ w) e)
-      at true false z e = rw z e
-      at false y z e = e
-
-  keep-all : (q : Write → Bool) (ws : List Write) → Each (λ w. q w ≡ true) ws → keep q ws ≡ ws
-  keep-all q [] u = refl
-  keep-all q (w ∷ ws) u = rw (u .0) (ap (_∷_ w) (keep-all q ws (u .1)))
 
   each-of : (n : ℕ) (ws : List Write) → Each (λ w. waits (t .good ++ b) n w ≡ both (waits (t .good) n w) (not (among (w .number) b))) ws
   each-of n [] = tt

@@ -16,24 +16,9 @@ use Rattle.shore.proofs.Files.{touches, lay-append}
 use Rattle.shore.proofs.Again.{absorb, has-end, has-more, land-under}
 use Rattle.history.specs.World.{putOn}
 use Rattle.history.specs.Tale.{among, keep, isOf}
+use Rattle.history.proofs.Keeping.{keep-append, keep-none, keep-same}
 
 -- ---- lists kept, and puts of writes joined
-
-pub keep-append : {A : Type 0} (q : A → Bool) (xs ys : List A) → keep q (xs ++ ys) ≡ keep q xs ++ keep q ys
-keep-append q [] ys = refl
-keep-append q (x ∷ xs) ys = at (q x) (keep-append q xs ys)
-  where
-    at : (b : Bool) → keep q (xs ++ ys) ≡ keep q xs ++ keep q ys → pick b (x ∷ keep q (xs ++ ys)) (keep q (xs ++ ys)) ≡ pick b (x ∷ keep q xs) (keep q xs) ++ keep q ys
-    at true e = ap (_∷_ x) e
-    at false e = e
-
-pub keep-none : {A : Type 0} (q : A → Bool) (xs : List A) → Each (λ x. q x ≡ false) xs → keep q xs ≡ []
-keep-none q [] o = refl
-keep-none q (x ∷ xs) o = rw (o .0) (keep-none q xs (o .1))
-
-pub keep-same : {A : Type 0} (p q : A → Bool) (xs : List A) → Each (λ x. p x ≡ q x) xs → keep p xs ≡ keep q xs
-keep-same p q [] o = refl
-keep-same p q (x ∷ xs) o = rw (o .0, keep-same p q xs (o .1))
 
 pub puts-append : (xs ys : List Write) → putsAll (xs ++ ys) ≡ putsAll xs ++ putsAll ys
 unfolding putsAll

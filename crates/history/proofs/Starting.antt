@@ -34,6 +34,7 @@ use Rattle.rules.proofs.Taking.{taken-entries}
 use Rattle.rules.proofs.Standing.{Real, hs-fit, hs-entries, stands-start}
 use Rattle.history.specs.World.{World}
 use Rattle.history.specs.Tale.{Tale, numbersOf, keep, tellBy}
+use Rattle.history.proofs.Keeping.{each-keep}
 use Rattle.history.proofs.Seeing.{seen, isOpen, below-seen, batch-seen, taken-told}
 use Rattle.history.proofs.Agreeing.{Agrees, SheetOut, OutFits, isNone}
 use Rattle.history.proofs.Changing.{standsAs}
@@ -60,14 +61,6 @@ ends-all f n (e ∷ es) o =
     let l = bytes-length f (e .slot * slotSize + headSize) (e .length) in
     let h = o .0 .valid .end in
     both-intro _ _ (le-leb _ fileEnd (subst (λ x. e .offset + x ≤ fileEnd) (sym l) h)) (ends-all f n es (o .1))
-
-keep-each : (P : Write → Type 0) (q : Write → Bool) (ws : List Write) → Each P ws → Each P (keep q ws)
-keep-each P q [] o = tt
-keep-each P q (w ∷ ws) o = at (q w) (keep-each P q ws (o .1))
-  where
-    at : (b : Bool) → Each P (keep q ws) → Each P (pick b (w ∷ keep q ws) (keep q ws))
-    at true k = (o .0, k)
-    at false k = k
 
 map-twice : (f : ℕ → ℕ) (ks : List Held) → map (writeOf f) (map entryOf ks) ≡ map (λ h. writeOf f (h .entry)) ks
 map-twice f [] = refl
@@ -149,7 +142,7 @@ module _ (files : ℕ → List ℕ) (W : World) (t : Tale) (k : Agrees files W t
   below = held-below files W t k
 
   below-taken : Each (λ n. n < s .next) (numbersOf batch)
-  below-taken = each-map (λ n. n < s .next) (λ w. w .number) batch (each-take (λ w. w .number < s .next) mostBatch (keep (isOpen (c .node) (t .good)) (t .held)) (keep-each (λ w. w .number < s .next) (isOpen (c .node) (t .good)) (t .held) below))
+  below-taken = each-map (λ n. n < s .next) (λ w. w .number) batch (each-take (λ w. w .number < s .next) mostBatch (keep (isOpen (c .node) (t .good)) (t .held)) (each-keep (λ w. w .number < s .next) (isOpen (c .node) (t .good)) (t .held) below))
 
   ends : all (endsBy fileEnd) batch ≡ true
   ends =

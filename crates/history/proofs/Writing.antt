@@ -24,8 +24,9 @@ use Rattle.rules.proofs.Standing.{Real, hs-entries, storable, stands-write}
 use Rattle.rules.proofs.Fit.{held-again}
 use Rattle.history.specs.World.{World}
 use Rattle.history.specs.Tale.{Tale, among, numbersOf, tellBy}
+use Rattle.history.proofs.Keeping.{keep-append}
 use Rattle.history.proofs.Seeing.{seen, written-seen}
-use Rattle.history.proofs.Shores.{shore-writes, waiting, waits, keep-append}
+use Rattle.history.proofs.Shores.{shore-writes, waiting, waits}
 use Rattle.history.proofs.Agreeing.{Agrees, SheetOut, OutFits}
 use Rattle.history.proofs.Changing.{standsAs, holds-as, fresh}
 
