@@ -11,9 +11,8 @@ use Rattle.judge.specs.Fits.{listedFits, listFits, nextFits, pinsDiffer, pinsFi
 use Rattle.state.specs.Asks.{laterEnd}
 use Rattle.layout.specs.Bytes.{bytesAt}
 use Rattle.state.specs.Batch.{batchOf, takeFirst}
-use Rattle.sheet.specs.Places.{laidAt}
 use Rattle.shore.specs.Cover.{spans, byteOver}
-use Rattle.sheet.specs.Sheet.{keyOf, goesOn, gather, cutIn, cutAll, piecesOf, listOf, dataBy, sheetBy, sheetOf}
+use Rattle.sheet.specs.Sheet.{keyOf, goesOn, gather, cutIn, cutAll, piecesOf, listOf, dataBy, sheetBy, sheetOf, laidAt}
 use Rattle.rules.specs.Fill.{filledFrom}
 use Rattle.rules.specs.Refusals.{refusalOf}
 use Rattle.rules.specs.Outcome.{outcome}

@@ -1,22 +1,17 @@
 -- What a fill's count comes to, and each of its returns. Document 01, "Moves", paragraph "Fill".
-use Prim.Native.Nat.{ℕ, _+_, _-_, _≤_, _<_, max, min}
+use Prim.Native.Nat.{ℕ, _+_, _-_, _≤_, max, min}
 use mathlib.Core.Path.{_≡_, refl, sym, ap, _∙_}
 use mathlib.Core.List.{List, [], _∷_}
-use mathlib.Core.Logic.{_⊎_, inl, inr}
 use mathlib.Core.Option.{none}
-use native.Mathlib.Omega.{arith}
-use borrow.Author.Tests.{le-leb, lt-leb}
 use lib.ListN.{length, take}
-use lib.Dec.{leb}
 use Rattle.reason.specs.declared.Reason.{Reason}
 use Rattle.layout.specs.Sizes.{fileEnd}
 use Rattle.layout.specs.declared.Ring.{Ring}
-use Rattle.layout.proofs.Tests.{lt-or-le}
 use Rattle.walk.specs.Walk.{readable, unreadable}
 use Rattle.state.specs.declared.State.{State}
 use Rattle.state.specs.declared.Held.{Held}
-use Rattle.state.specs.Lists.{pick}
 use Rattle.state.specs.Asks.{larger, cachedEnd}
+use Rattle.state.proofs.Extremes.{larger-max, lesser-min}
 use Rattle.rules.specs.Call.{fillRead}
 use Rattle.rules.specs.Fill.{writesFor, fillCount, filled}
 use Rattle.rules.specs.Refusals.{own}
@@ -30,23 +25,9 @@ use Rattle.fill.proofs.Refusing.{may-none, may-some, own-same, fillable
 
 -- ---- the count
 
-larger-max : (a b : ℕ) → larger a b ≡ max a b
-larger-max a b = at (lt-or-le b a)
-  where
-    at : (b < a) ⊎ (a ≤ b) → larger a b ≡ max a b
-    at (inl h) = rw (lt-leb a b h) (omega arith)
-    at (inr h) = rw (le-leb a b h) (omega arith)
-
-smaller-min : (a b : ℕ) → pick (leb a b) a b ≡ min a b
-smaller-min a b = at (lt-or-le b a)
-  where
-    at : (b < a) ⊎ (a ≤ b) → pick (leb a b) a b ≡ min a b
-    at (inl h) = rw (lt-leb a b h) (omega arith)
-    at (inr h) = rw (le-leb a b h) (omega arith)
-
 -- "the greater of g and min(n, E - offset)"
 pub count-is : (n g offset end : ℕ) → fillCount n g offset end ≡ max g (min n (end - offset))
-count-is n g offset end = ap (larger g) (smaller-min n (end - offset)) ∙ larger-max g (min n (end - offset))
+count-is n g offset end = ap (larger g) (lesser-min n (end - offset)) ∙ larger-max g (min n (end - offset))
 
 -- ---- the returns
 

@@ -17,23 +17,14 @@ use Rattle.walk.specs.declared.Entry.{Entry}
 use Rattle.walk.specs.Entry.{dataOf}
 use Rattle.walk.specs.Walk.{writeOf}
 use Rattle.state.specs.declared.Held.{Held}
-use Rattle.state.specs.Lists.{pick, noHeld, entryOf}
-use Rattle.state.specs.Pins.{those}
+use Rattle.state.specs.Lists.{pick, noHeld, entryOf, those}
+use Rattle.state.proofs.Those.{those-append}
 use Rattle.shore.specs.Cover.{spans, covers, newest, byteIn, byteOver}
 use Rattle.shore.proofs.Covering.{last-snoc, spans-out}
 use Rattle.rules.specs.Fill.{isOf, writesFor}
 use Rattle.fill.specs.Overlay.{isOver}
 
 -- ---- one held write more
-
-those-append : (q : Held → Bool) (hs ks : List Held) → those q (hs ++ ks) ≡ those q hs ++ those q ks
-those-append q [] ks = refl
-those-append q (h ∷ hs) ks = at (q h) (those-append q hs ks)
-  where
-    at : (b : Bool) → those q (hs ++ ks) ≡ those q hs ++ those q ks
-        → pick b (h ∷ those q (hs ++ ks)) (those q (hs ++ ks)) ≡ pick b (h ∷ those q hs) (those q hs) ++ those q ks
-    at true e = ap (_∷_ h) e
-    at false e = e
 
 covers-entry : (f : ℕ → ℕ) (p : ℕ) (e : Entry) → covers p (writeOf f e) ≡ spans (e .offset) (e .length) p
 covers-entry f p e = ap (λ l. spans (e .offset) l p) (bytes-length f (e .slot * slotSize + headSize) (e .length))

@@ -14,9 +14,8 @@ use Rattle.layout.proofs.Tests.{both-left, both-right}
 use Rattle.walk.specs.declared.Entry.{Entry}
 use Rattle.walk.specs.Walk.{noEntry}
 use Rattle.state.specs.declared.Held.{Held}
-use Rattle.state.specs.Lists.{filled, unflushed, noHeld, entryOf}
+use Rattle.state.specs.Lists.{filled, unflushed, noHeld, entryOf, those}
 use Rattle.state.specs.Moves.{taken, moveOf, movedBy}
-use Rattle.state.specs.Pins.{those}
 use Rattle.state.specs.Batch.{mostBatch, isWaiting, batchOf, takeFirst, takenOf}
 use Rattle.state.proofs.Bools.{both-fails}
 use Rattle.state.proofs.Loops.{fill-more}

@@ -1,8 +1,8 @@
 -- From the code's tests, batch and sheet to the outcome of a flush start.
-use Prim.Native.Nat.{ℕ, zero, suc, _+_, _-_, _≤_, _<_}
+use Prim.Native.Nat.{ℕ, _+_, _-_, _≤_, _<_}
 use mathlib.Core.Path.{_≡_, refl, sym, ap, _∙_}
 use mathlib.Core.Bool.{Bool, true, false}
-use mathlib.Core.List.{List, [], _∷_, _++_, map}
+use mathlib.Core.List.{List, [], _∷_, map}
 use mathlib.Core.Option.{none, some}
 use native.Mathlib.Omega.{arith}
 use borrow.Author.Tests.{eq-eqb, ne-eqb, lt-ltb, le-ltb}
@@ -14,20 +14,19 @@ use Rattle.layout.specs.Sizes.{numberLimit}
 use Rattle.layout.specs.Bytes.{both, round}
 use Rattle.layout.specs.declared.Ring.{Ring}
 use Rattle.layout.proofs.Tests.{never}
-use Rattle.walk.specs.declared.Entry.{Entry}
 use Rattle.walk.specs.Walk.{readable, noEntry, writeOf}
 use Rattle.walk.proofs.Chain.{InRing}
 use Rattle.state.specs.declared.State.{State}
 use Rattle.state.specs.declared.Held.{Held}
-use Rattle.state.specs.Lists.{pick, filled, entryOf, withNext, withFlush, withHeld}
-use Rattle.state.specs.Pins.{those}
+use Rattle.state.specs.Lists.{pick, filled, entryOf, withNext, withFlush, withHeld, those}
 use Rattle.state.specs.Batch.{mostBatch, isWaiting, batchOf, takenOf}
-use Rattle.state.proofs.Finding.{each-at, each-those, each-take, each-map}
+use Rattle.state.proofs.Finding.{each-at, each-take, each-map}
+use Rattle.state.proofs.Those.{each-those}
 use Rattle.state.proofs.Loops.{filled-long}
 use Rattle.sheet.specs.declared.Made.{Made}
 use Rattle.sheet.specs.declared.Made.the-variants.{Sheet, Short}
-use Rattle.sheet.specs.Sheet.{sheetOf}
-use Rattle.sheet.specs.Places.{Laid, laidAt, laidIf, madeFrom}
+use Rattle.sheet.specs.Sheet.{sheetOf, laidAt}
+use Rattle.sheet.specs.Places.{Laid, laidIf, madeFrom}
 use Rattle.rules.specs.Call.{startFlush}
 use Rattle.rules.specs.Flush.{hasBatch, sheetFor}
 use Rattle.rules.specs.Refusals.{own}

@@ -23,7 +23,7 @@ use Rattle.judge.specs.Fits.{fits, padded, judgedOf}
 use Rattle.judge.proofs.Fitting.{list-length, holding-length}
 use Rattle.judge.proofs.Rules.{fits-sound}
 use Rattle.rules.specs.Call.{Call, makes, reopens, isOne}
-use Rattle.rules.specs.Refusals.{order, refusalOf, own}
+use Rattle.rules.specs.Refusals.{refusalOf, own}
 use Rattle.rules.specs.Outcome.{lentBy, refuses, doneBy, unless, outcome}
 use Rattle.rules.specs.Known.{Known}
 

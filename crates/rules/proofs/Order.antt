@@ -3,7 +3,7 @@ use Prim.Native.Nat.{ℕ}
 use mathlib.Core.Path.{_≡_, refl, _∙_, ap}
 use mathlib.Core.Bool.{Bool, true, false}
 use mathlib.Core.List.{List, [], _∷_, _++_, map}
-use mathlib.Core.Option.{Option, none, some}
+use mathlib.Core.Option.{Option, some}
 use Rattle.layout.proofs.Tests.{never}
 use Rattle.reason.specs.declared.Reason.{Reason}
 use Rattle.reason.specs.Reason.{numberOf}
@@ -24,7 +24,7 @@ pub record First (p : Reason → Bool) (whys : List Reason) (why : Reason) : Typ
   pub applies : p why ≡ true
   pub none-before : any p earlier ≡ false
 
-pub same-some : (a b : Reason) → _≡_ {A = Option Reason} (some a) (some b) → a ≡ b
+pub same-some : {A : Type 0} (a b : A) → _≡_ {A = Option A} (some a) (some b) → a ≡ b
 same-some a b e = cc
 
 module _ (p : Reason → Bool) where

@@ -1,26 +1,25 @@
 -- A flush start: the batch is taken, and the state still fits.
 use Prim.Native.Nat.{ℕ, zero, suc, _+_, _≤_, _<_}
-use mathlib.Core.Path.{_≡_, refl, sym, _∙_, ap}
+use mathlib.Core.Path.{_≡_, refl, ap}
 use mathlib.Core.Bool.{Bool, true, false, not}
 use mathlib.Core.List.{List, [], _∷_, map}
 use native.Mathlib.Omega.{arith}
 use borrow.Author.Tests.{eqb-true, eq-eqb, lt-ltb, le-leb, ltb-true, ne-eqb}
 use lib.ListN.{length, take}
-use lib.Dec.{eqb, ltb, leb}
+use lib.Dec.{eqb, ltb}
 use Rattle.layout.specs.Sizes.{numberLimit}
 use Rattle.layout.specs.Bytes.{both}
 use Rattle.layout.proofs.Tests.{never, both-left, both-right}
 use Rattle.state.specs.declared.Pin.{Pin}
 use Rattle.state.specs.declared.Held.{Held}
-use Rattle.state.specs.Lists.{pick, any, all, pairs, unflushed, inFlight, flushed, gone, entryOf, phaseFits}
+use Rattle.state.specs.Lists.{pick, any, all, pairs, unflushed, inFlight, gone, entryOf, phaseFits, those}
 use Rattle.state.specs.Moves.{taken, moveOf, movedBy}
-use Rattle.state.specs.Pins.{those, isDue}
-use Rattle.state.specs.Asks.{isUnflushed}
+use Rattle.state.specs.Pins.{isDue}
 use Rattle.state.specs.Batch.{mostBatch, isWaiting, batchOf, takeFirst, takenOf}
-use Rattle.state.proofs.Bools.{both-intro, both-no, both-fails}
+use Rattle.state.proofs.Bools.{both-intro, both-fails}
 use Rattle.state.proofs.Finding.{Each, each-by, each-both, each-true}
-use Rattle.judge.specs.Fits.{phasesFit, nodesFit, pairFits, isInFlight, flightFits, headStays, nextFits, pinsFit}
-use Rattle.rules.proofs.Fit.{HeldFit, each-phase, apart, numbers-grow, pins-grow}
+use Rattle.judge.specs.Fits.{phasesFit, nodesFit, pairFits, isInFlight, flightFits, headStays, nextFits}
+use Rattle.rules.proofs.Fit.{HeldFit, apart, numbers-grow, pins-grow}
 
 -- ---- what is said of every write, after the batch is taken
 

@@ -2,14 +2,13 @@
 use Prim.Native.Nat.{ℕ, suc, _+_, _-_}
 use mathlib.Core.Bool.{Bool}
 use mathlib.Core.List.{List, [], _∷_, map}
-use lib.Dec.{eqb, ltb, leb}
+use lib.Dec.{eqb, ltb}
 use Rattle.layout.specs.Bytes.{round}
 use Rattle.layout.specs.declared.Ring.{Ring}
 use Rattle.walk.specs.Walk.{Write, writeOf}
 use Rattle.state.specs.declared.Held.{Held}
-use Rattle.state.specs.Lists.{pick, entryOf}
-use Rattle.state.specs.Pins.{those}
-use Rattle.state.specs.Asks.{larger}
+use Rattle.state.specs.Lists.{pick, entryOf, those}
+use Rattle.state.specs.Asks.{larger, lesser}
 use Rattle.shore.specs.Cover.{byteOver}
 
 -- "n above 65,536"
@@ -23,12 +22,9 @@ isOf node h = eqb (h .entry .node) node
 abbrev pub writesFor : ℕ → List ℕ → Ring → List Held → List Write
 writesFor node r g hs = map (writeOf (round r (g .n))) (map entryOf (those (isOf node) hs))
 
-abbrev smaller : ℕ → ℕ → ℕ
-smaller a b = pick (leb a b) a b
-
 -- "The answer is the count r: the greater of g and min(n, E - offset), the latter 0 where E is below offset."
 abbrev pub fillCount : ℕ → ℕ → ℕ → ℕ → ℕ
-fillCount n g offset end = larger g (smaller n (end - offset))
+fillCount n g offset end = larger g (lesser n (end - offset))
 
 -- "Each byte before r is that of the newest ring entry that covers it; else the fetched one before g; else zero. .. those from r on are
 -- unchanged." Of the buffer's bytes from place i on.

@@ -18,12 +18,12 @@ use Rattle.state.specs.Lists.{unflushed, noPin, withNext, withFlush, withPins, 
 use Rattle.state.specs.Moves.{good, bad, reported}
 use Rattle.state.specs.Pins.{markOf, staying, slotsLeft, pinPlace}
 use Rattle.state.specs.Batch.{takenOf}
-use Rattle.sheet.specs.Places.{laidAt}
 use Rattle.state.specs.Asks.{cachedEnd, turnOf, ticketDone}
 use Rattle.rules.specs.Call.{Call, Kind, makes, reopens, writes, pins, unpins, asksEnd, reports, starts, fills, takesTicket, asksTicket, asksTurn, ringOf, entriesOf, heldOf}
 use Rattle.rules.specs.Flush.{hasBatch, sheetFor}
 use Rattle.rules.specs.Fill.{writesFor, fillCount, filled}
 use Rattle.rules.specs.Refusals.{refusalOf}
+use Rattle.sheet.specs.Sheet.{laidAt}
 
 -- an answer on paper: the refusal's number, 0 for none, and the values
 pub record Said : Type 0 where

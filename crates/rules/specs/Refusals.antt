@@ -9,7 +9,6 @@ use Rattle.reason.specs.declared.Reason.{Reason}
 use Rattle.reason.specs.declared.Reason.the-variants.{NodeZero, BadLength, PastFileEnd, NoRoom, NoNumber, FlushUnderWay, NotTheFlush, Unreadable, NoSuchPin, TooManyPins, BadBuffer, StateUnfit}
 use Rattle.layout.specs.Sizes.{largest, fileEnd, numberLimit, slotsOf}
 use Rattle.layout.specs.Bytes.{both}
-use Rattle.layout.specs.declared.Ring.{Ring}
 use Rattle.walk.specs.Walk.{Reading, readable, unreadable, readingOf}
 use Rattle.store.specs.Store.{isMakeable}
 use Rattle.state.specs.declared.State.{State}

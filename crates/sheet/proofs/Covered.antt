@@ -6,13 +6,13 @@ use mathlib.Core.Bool.{Bool, true, false}
 use mathlib.Core.Logic.{_⊎_, inl, inr}
 use mathlib.Core.List.{List, [], _∷_}
 use mathlib.Core.Option.{Option, none, some}
-use borrow.Author.Tests.{leb-true, leb-false}
+use borrow.Author.Tests.{leb-true}
 use lib.ListN.{length}
 use lib.Dec.{leb}
 use Rattle.layout.proofs.Tests.{never, both-left, both-right, lt-or-le}
 use Rattle.walk.specs.Walk.{Write}
 use Rattle.state.specs.Lists.{pick, any, all}
-use Rattle.state.specs.Asks.{larger}
+use Rattle.state.proofs.Extremes.{larger-max}
 use Rattle.shore.specs.Cover.{covers, newest}
 use Rattle.shore.proofs.Covering.{spans-after, isSome, last-some}
 use Rattle.sheet.specs.declared.Piece.{Piece}
@@ -35,42 +35,13 @@ covered-key ws p e = key-is ws p ∙ ap (λ (b : Bool). pick b 1 0) e
 pub bare-key : (ws : List Write) (p : ℕ) → any (covers p) ws ≡ false → keyOf ws p ≡ 0
 bare-key ws p e = key-is ws p ∙ ap (λ (b : Bool). pick b 1 0) e
 
-pub key-covered : (ws : List Write) (p : ℕ) → 0 < keyOf ws p → any (covers p) ws ≡ true
-key-covered ws p h = at (any (covers p) ws) (key-is ws p)
-  where
-    at : (b : Bool) → keyOf ws p ≡ pick b 1 0 → b ≡ true
-    at true e = refl
-    at false e = absurd (let w : ⊥ = omega arith in w)
-
 -- ---- the end
-
-pub larger-left : (a b : ℕ) → a ≤ larger a b
-larger-left a b = at (leb a b) refl
-  where
-    at : (t : Bool) → leb a b ≡ t → a ≤ pick t b a
-    at true e = leb-true a b e
-    at false e = omega arith
-
-pub larger-right : (a b : ℕ) → b ≤ larger a b
-larger-right a b = at (leb a b) refl
-  where
-    at : (t : Bool) → leb a b ≡ t → b ≤ pick t b a
-    at true e = omega arith
-    at false e = omega (arith, leb-false a b e)
-
-pub larger-most : (a b n : ℕ) → a ≤ n → b ≤ n → larger a b ≤ n
-larger-most a b n h k = at (leb a b)
-  where
-    at : (t : Bool) → pick t b a ≤ n
-    at true = k
-    at false = h
 
 pub behind-bare : (ws : List Write) (p : ℕ) → endOf ws ≤ p → any (covers p) ws ≡ false
 behind-bare [] p h = refl
 behind-bare (w ∷ ws) p h =
     let e = w .offset + length (w .bytes) in
-    let l = larger-left e (endOf ws) in
-    let r = larger-right e (endOf ws) in
+    let l = larger-max e (endOf ws) in
     rw (spans-after (w .offset) (length (w .bytes)) p (omega arith)) (behind-bare ws p (omega arith))
 
 pub behind-key : (ws : List Write) (p : ℕ) → endOf ws ≤ p → keyOf ws p ≡ 0
@@ -90,7 +61,10 @@ endsBy n w = leb (w .offset + length (w .bytes)) n
 pub end-within : (n : ℕ) (ws : List Write) → all (endsBy n) ws ≡ true → endOf ws ≤ n
 end-within n [] e = omega arith
 end-within n (w ∷ ws) e =
-    larger-most (w .offset + length (w .bytes)) (endOf ws) n (leb-true _ _ (both-left _ _ e)) (end-within n ws (both-right (endsBy n w) _ e))
+    let l = larger-max (w .offset + length (w .bytes)) (endOf ws) in
+    let h : w .offset + length (w .bytes) ≤ n = leb-true _ _ (both-left _ _ e) in
+    let k = end-within n ws (both-right (endsBy n w) _ e) in
+    omega arith
 
 -- ---- no more pieces, and no more bytes in them, than places
 

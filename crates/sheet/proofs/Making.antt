@@ -14,8 +14,8 @@ use Rattle.state.specs.Batch.{mostBatch}
 use Rattle.sheet.specs.declared.Piece.{Piece}
 use Rattle.sheet.specs.declared.Pieces.{Pieces}
 use Rattle.sheet.specs.declared.Made.the-variants.{Sheet, Short}
-use Rattle.sheet.specs.Sheet.{listOf, dataBy, sheetBy, sheetOf}
-use Rattle.sheet.specs.Places.{keyBy, byteBy, grow, inOrder, total, piecesFrom, laidAt, laidIf, madeFrom, Batch}
+use Rattle.sheet.specs.Sheet.{listOf, dataBy, sheetBy, sheetOf, laidAt}
+use Rattle.sheet.specs.Places.{keyBy, byteBy, grow, inOrder, total, piecesFrom, laidIf, madeFrom, Batch}
 use Rattle.sheet.proofs.Few.{few-pieces}
 use Rattle.sheet.proofs.Collecting.{order-length}
 use Rattle.sheet.proofs.Covered.{grow-total}

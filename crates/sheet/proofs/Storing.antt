@@ -11,16 +11,12 @@ use borrow.Rule.Slice.PartMut.{putMid}
 use Rattle.layout.specs.Bytes.{bytes2, bytes4, bytesAt}
 use Rattle.layout.proofs.Views.{bytes-length}
 use Rattle.sheet.specs.declared.Piece.{Piece}
-use Rattle.sheet.specs.Sheet.{listOf, dataBy}
-use Rattle.sheet.specs.Places.{noPiece, total, laidAt}
+use Rattle.sheet.specs.Sheet.{listOf, dataBy, laidAt}
+use Rattle.sheet.specs.Places.{noPiece, total}
 
 pub laid-none : (d : List ℕ) (a : ℕ) → d ≡ laidAt d a []
 unfolding laidAt
 laid-none d a = sym (rw add-zero (take-append-drop a d))
-
-pub laid-length : (d : List ℕ) (a : ℕ) (u : List ℕ) → a + length u ≤ length d → length (laidAt d a u) ≡ length d
-unfolding laidAt
-laid-length d a u h = simp (length-append, length-take, length-drop) (omega arith)
 
 -- one store behind another is one of both
 pub laid-more : (d : List ℕ) (a : ℕ) (u v : List ℕ) → a + length u ≤ length d → laidAt (laidAt d a u) (a + length u) v ≡ laidAt d a (u ++ v)

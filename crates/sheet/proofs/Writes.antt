@@ -1,6 +1,6 @@
 -- The sheet's pieces, said of any list of writes: they are the paper's, and never more than the writes.
 -- Document 01, "Moves", paragraph "Sheet".
-use Prim.Native.Nat.{ℕ, zero, suc, _+_, _≤_, _<_}
+use Prim.Native.Nat.{ℕ, zero, suc, _≤_, _<_}
 use native.Mathlib.Omega.{arith}
 use mathlib.Core.Path.{_≡_, refl, sym, ap, _∙_}
 use mathlib.Core.Bool.{Bool, true, false}

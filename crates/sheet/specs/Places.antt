@@ -1,10 +1,10 @@
 -- What the code's walk over places finds: the newest write at a place, how far it stays the same, where a piece begins and ends.
 -- Document 01, "Moves", paragraph "Sheet".
-use Prim.Native.Nat.{ℕ, zero, suc, _+_, _-_, _*_, _≤_, _<_}
+use Prim.Native.Nat.{ℕ, zero, suc, _+_, _-_, _≤_, _<_}
 use mathlib.Core.Path.{_≡_}
-use mathlib.Core.Bool.{Bool, true}
+use mathlib.Core.Bool.{Bool}
 use mathlib.Core.List.{List, [], _∷_, _++_}
-use lib.ListN.{length, getD, take, drop}
+use lib.ListN.{length, getD}
 use lib.Dec.{ltb}
 use Rattle.layout.specs.Sizes.{fileEnd, largest}
 use Rattle.walk.specs.declared.Entry.{Entry}
@@ -18,7 +18,7 @@ use Rattle.sheet.specs.declared.Pieces.{Pieces}
 use Rattle.sheet.specs.declared.Found.{Found}
 use Rattle.sheet.specs.declared.Made.{Made}
 use Rattle.sheet.specs.declared.Made.the-variants.{Sheet, Short}
-use Rattle.sheet.specs.Sheet.{pieceSize, piece, gather}
+use Rattle.sheet.specs.Sheet.{pieceSize, piece, gather, laidAt}
 
 abbrev pub overlies : ℕ → Entry → Bool
 overlies p e = spans (e .offset) (e .length) p
@@ -106,10 +106,6 @@ pub record Ends (key : ℕ → ℕ) (s e r : ℕ) : Type 0 where
   pub held : (q : ℕ) → s ≤ q → q < r → key q ≡ key s
   pub fits : r ≤ s + pieceSize
   pub bare : r < s + pieceSize → r < e → key r ≡ key s → ⊥
-
--- bytes stored in a buffer from a place on
-unfoldable pub laidAt : List ℕ → ℕ → List ℕ → List ℕ
-laidAt d p bs = take p d ++ (bs ++ drop (p + length bs) d)
 
 -- the code's list of pieces: as many as there are, with their bytes counted, and nothing behind them
 abbrev pub piecesFrom : List Piece → Pieces

@@ -3,7 +3,7 @@ use Prim.Native.Nat.{ℕ, zero, suc, _+_, _-_, _*_}
 use mathlib.Core.Bool.{Bool, true}
 use mathlib.Core.List.{List, [], _∷_, _++_}
 use mathlib.Core.Option.{Option, none, some}
-use lib.ListN.{length}
+use lib.ListN.{length, take, drop}
 use lib.Dec.{eqb, leb}
 use Rattle.layout.specs.Bytes.{both, flat, number4, bytesAt, bytes4}
 use Rattle.walk.specs.Walk.{Write}
@@ -94,6 +94,10 @@ sheetBy b node qs = (bytes4 (length qs) ++ bytes4 node) ++ (listOf qs ++ dataBy 
 
 unfoldable pub sheetOf : ℕ → List Write → List ℕ
 sheetOf node ws = sheetBy (byteOf ws) node (piecesOf ws)
+
+-- bytes laid in a lent buffer from a place on; all others stay
+unfoldable pub laidAt : List ℕ → ℕ → List ℕ → List ℕ
+laidAt d p bs = take p d ++ (bs ++ drop (p + length bs) d)
 
 -- ---- a sheet read back from its bytes: its node, and what it lays on the node's file
 

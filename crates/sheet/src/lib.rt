@@ -4,16 +4,16 @@ use layout::Ring;
 use walk::Entry;
 ghost use mathlib.Core.Path.{_≡_};
 ghost use mathlib.Core.List.{_++_, map};
-ghost use Prim.Native.Nat.{ℕ, _+_, _-_, _*_, _≤_, _<_};
-ghost use lib.ListN.{length, take, drop, getD, replicate};
+ghost use Prim.Native.Nat.{_+_, _-_, _*_, _≤_, _<_};
+ghost use lib.ListN.{length, take, drop, replicate};
 ghost use Rattle.layout.specs.Sizes.{fileEnd, largest};
 ghost use Rattle.walk.specs.Entry.{dataOf};
 ghost use Rattle.walk.specs.Walk.{writeOf};
 ghost use Rattle.layout.specs.Bytes.{Sized, bytes4, bytesAt, round};
 ghost use Rattle.state.specs.Batch.{mostBatch};
 ghost use Rattle.shore.specs.Cover.{spans};
-ghost use Rattle.sheet.specs.Sheet.{pieceSize, listOf, dataBy, sheetOf};
-ghost use Rattle.sheet.specs.Places.{Batch, Laid, Covered, AllCovered, byteBy, total, Steady, First, Ends, FoundAt, topOf, keyAt, keyBy, overlies, grow, inOrder, noPiece, piecesFrom, laidAt, laidIf, madeFrom};
+ghost use Rattle.sheet.specs.Sheet.{pieceSize, listOf, dataBy, sheetOf, laidAt};
+ghost use Rattle.sheet.specs.Places.{Batch, Laid, Covered, AllCovered, byteBy, total, Steady, First, Ends, FoundAt, keyAt, keyBy, overlies, grow, inOrder, noPiece, piecesFrom, laidIf, madeFrom};
 
 // The most writes of a batch, and so the most pieces of its sheet.
 pub const BATCH: usize = 32;

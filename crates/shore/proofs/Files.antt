@@ -1,8 +1,7 @@
 -- Laws of files. Two things tell all of a file: its length, and its byte at each place (0 past the end).
 use Prim.Native.Nat.{ℕ, zero, suc, _+_, _-_, _≤_, _<_, max}
-use mathlib.Core.Path.{_≡_, refl, sym, ap, _∙_, subst}
+use mathlib.Core.Path.{_≡_, refl, sym, ap, _∙_}
 use mathlib.Core.Bool.{Bool, true, false}
-use mathlib.Core.Logic.{_⊎_, inl, inr}
 use mathlib.Core.List.{List, [], _∷_, _++_}
 use native.Mathlib.Omega.{arith}
 use borrow.Author.Tests.{eqb-true, eqb-false, eq-eqb, ne-eqb}
@@ -11,7 +10,7 @@ use lib.Seq.{ext-getD}
 use lib.Dec.{eqb}
 use Rattle.layout.proofs.Tests.{never}
 use Rattle.state.specs.Lists.{pick, any}
-use Rattle.shore.specs.File.{Put, put, lay, puts, putsOf, putsAll}
+use Rattle.shore.specs.File.{Put, put, lay}
 
 -- ---- what puts show: the byte at i, where it was d before; the end, where it was n before; whether i is one of their places
 

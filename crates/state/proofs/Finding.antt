@@ -16,8 +16,8 @@ use Rattle.layout.proofs.Tests.{never, both-left, both-right, lt-or-le}
 use Rattle.state.proofs.Bools.{both-known, both-swap}
 use Rattle.state.specs.declared.Held.{Held}
 use Rattle.state.specs.declared.Query.{Query}
-use Rattle.state.specs.Lists.{pick, any, all, placeOf, unflushed, inFlight, gone, noHeld, phaseFits, RisingTo}
-use Rattle.state.specs.Pins.{reaches, waitsIn, those, lower, lowest, valueOr}
+use Rattle.state.specs.Lists.{any, all, placeOf, unflushed, inFlight, gone, noHeld, phaseFits, RisingTo, those}
+use Rattle.state.specs.Pins.{reaches, waitsIn, lower, lowest, valueOr}
 use Rattle.state.specs.Asks.{waitsFor, seeks}
 use Rattle.state.proofs.Loops.{any-found, any-none}
 
@@ -40,14 +40,6 @@ each-true p [] e = tt
 each-true p (x ∷ xs) e = (both-left _ _ e, each-true p xs (both-right (p x) _ e))
 
 -- of some of them, and of what is made of them
-pub each-those : (P : Held → Type 0) (q : Held → Bool) (hs : List Held) → Each P hs → Each P (those q hs)
-each-those P q [] o = tt
-each-those P q (h ∷ hs) o = at (q h) (each-those P q hs (o .1))
-  where
-    at : (b : Bool) → Each P (those q hs) → Each P (pick b (h ∷ those q hs) (those q hs))
-    at true k = (o .0, k)
-    at false k = k
-
 pub each-take : {A : Type 0} (P : A → Type 0) (m : ℕ) (xs : List A) → Each P xs → Each P (take m xs)
 each-take P zero xs o = tt
 each-take P (suc m) [] o = tt

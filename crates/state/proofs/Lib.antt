@@ -1,6 +1,8 @@
 pub mod Bools
 pub mod Loops
 pub mod Finding
+pub mod Those
+pub mod Extremes
 pub mod Pairs
 pub mod PinTable
 pub mod LettingGo

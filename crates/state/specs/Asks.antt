@@ -6,8 +6,8 @@ use lib.Dec.{eqb, ltb, leb}
 use Rattle.layout.specs.Bytes.{both}
 use Rattle.state.specs.declared.Held.{Held}
 use Rattle.state.specs.declared.Query.{Query}
-use Rattle.state.specs.Lists.{pick, any, carry, unflushed}
-use Rattle.state.specs.Pins.{reaches, waitsIn, those, lowest, valueOr}
+use Rattle.state.specs.Lists.{pick, any, carry, unflushed, those}
+use Rattle.state.specs.Pins.{reaches, waitsIn, lowest, valueOr}
 
 -- "the node of the lowest-numbered Unflushed write, or 0"
 abbrev pub isUnflushed : Held → Bool
@@ -29,6 +29,9 @@ endOf h = h .entry .offset + h .entry .length
 
 abbrev pub larger : ℕ → ℕ → ℕ
 larger a b = pick (leb a b) b a
+
+abbrev pub lesser : ℕ → ℕ → ℕ
+lesser a b = pick (leb a b) a b
 
 -- the larger of an end and a write's, where it is the node's
 unfoldable pub laterEnd : ℕ → ℕ → Held → ℕ

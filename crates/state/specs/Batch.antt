@@ -6,9 +6,8 @@ use lib.ListN.{take}
 use lib.Dec.{eqb}
 use Rattle.layout.specs.Bytes.{both}
 use Rattle.state.specs.declared.Held.{Held}
-use Rattle.state.specs.Lists.{pick}
+use Rattle.state.specs.Lists.{pick, those}
 use Rattle.state.specs.Moves.{taken, movedBy}
-use Rattle.state.specs.Pins.{those}
 use Rattle.state.specs.Asks.{isUnflushed}
 
 abbrev pub mostBatch : ℕ

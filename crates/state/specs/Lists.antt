@@ -4,7 +4,6 @@ use Prim.Native.Nat.{ℕ, suc, _+_, _-_, _<_}
 use lib.Dec.{ltb}
 use mathlib.Core.Bool.{Bool, true, false}
 use mathlib.Core.List.{List, [], _∷_, _++_, map}
-use mathlib.Core.Option.{some}
 use lib.ListN.{length, take, replicate}
 use Rattle.layout.specs.Sizes.{mostEntries}
 use Rattle.layout.specs.Bytes.{both}
@@ -30,6 +29,11 @@ any p (x ∷ xs) = pick (p x) true (any p xs)
 abbrev pub all : {A : Type 0} → (A → Bool) → List A → Bool
 all p [] = true
 all p (x ∷ xs) = both (p x) (all p xs)
+
+-- those that pass
+abbrev pub those : {A : Type 0} → (A → Bool) → List A → List A
+those p [] = []
+those p (x ∷ xs) = pick (p x) (x ∷ those p xs) (those p xs)
 
 -- every element passes beside every later one
 abbrev pub pairs : {A : Type 0} → (A → A → Bool) → List A → Bool

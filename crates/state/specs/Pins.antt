@@ -8,7 +8,7 @@ use Rattle.layout.specs.Bytes.{both}
 use Rattle.walk.specs.Walk.{slotsUsed}
 use Rattle.state.specs.declared.Pin.{Pin}
 use Rattle.state.specs.declared.Held.{Held}
-use Rattle.state.specs.Lists.{pick, any, placeOf, flushed, entryOf}
+use Rattle.state.specs.Lists.{pick, any, those, placeOf, flushed, entryOf}
 
 -- "for one node, or for all (node 0)"
 abbrev pub reaches : ℕ → Held → Bool
@@ -22,11 +22,6 @@ abbrev pub waitsIn : ℕ → Held → Bool
 waitsIn node h = both (reaches node h) (not (isFlushed h))
 
 -- ---- the mark
-
--- the writes that pass
-abbrev pub those : (Held → Bool) → List Held → List Held
-those p [] = []
-those p (h ∷ hs) = pick (p h) (h ∷ those p hs) (those p hs)
 
 -- the one with the least number
 abbrev pub lower : Held → Option Held → Option Held

@@ -6,7 +6,7 @@ ghost use mathlib.Core.Path.{_≡_};
 ghost use mathlib.Core.Bool.{true, false};
 ghost use mathlib.Core.List.{map, _++_};
 ghost use Prim.Native.Nat.{_+_, _-_, _≤_, _<_};
-ghost use lib.ListN.{length, getD, take, drop, replicate};
+ghost use lib.ListN.{length, take, drop, replicate};
 ghost use Rattle.layout.specs.Sizes.{mostEntries, numberLimit};
 ghost use Rattle.walk.specs.Walk.{slotsUsed, lastOf, Rising};
 ghost use Rattle.state.specs.Lists.{

@@ -6,8 +6,8 @@ use lib.Seq.{getD-take, length-take-le}
 use native.Mathlib.Omega.{arith}
 use Rattle.layout.specs.Bytes.{round, bytesAt}
 use Rattle.sheet.specs.declared.Piece.{Piece}
-use Rattle.sheet.specs.Sheet.{dataBy}
-use Rattle.sheet.specs.Places.{noPiece, total, laidAt, byteBy}
+use Rattle.sheet.specs.Sheet.{dataBy, laidAt}
+use Rattle.sheet.specs.Places.{noPiece, total, byteBy}
 use Rattle.sheet.proofs.Storing.{laid-none, data-more, total-more, total-room}
 use Rattle.sheet.proofs.put_data.Statement.{statement}
 use Rattle.sheet.proofs.put_data.Tie as tie

@@ -4,8 +4,8 @@ use mathlib.Core.Path.{_≡_, refl, ap, _∙_}
 use lib.ListN.{length, take, getD}
 use native.Mathlib.Omega.{arith}
 use Rattle.layout.specs.Bytes.{bytes4}
-use Rattle.sheet.specs.Sheet.{listOf}
-use Rattle.sheet.specs.Places.{noPiece, laidAt}
+use Rattle.sheet.specs.Sheet.{listOf, laidAt}
+use Rattle.sheet.specs.Places.{noPiece}
 use Rattle.sheet.proofs.Storing.{laid-none, list-more}
 use Rattle.sheet.proofs.put_list.Statement.{statement}
 use Rattle.sheet.proofs.put_list.Tie as tie

@@ -4,8 +4,8 @@ use lib.ListN.{take}
 use native.Mathlib.Omega.{arith}
 use borrow.Author.Needs.{needs}
 use Rattle.layout.specs.Bytes.{round}
-use Rattle.sheet.specs.Sheet.{sheetBy}
-use Rattle.sheet.specs.Places.{laidAt, byteBy}
+use Rattle.sheet.specs.Sheet.{sheetBy, laidAt}
+use Rattle.sheet.specs.Places.{byteBy}
 use Rattle.sheet.proofs.Batches.{all-covered, sheet-writes}
 use Rattle.sheet.proofs.Making.{laid-sheet}
 use Rattle.sheet.proofs.put_sheet.Statement.{statement}
