@@ -18,9 +18,8 @@ use Rattle.walk.proofs.Chain.{AllInRing}
 use Rattle.store.specs.Store.{isMakeable}
 use Rattle.ring.proofs.Laws.{readable-facts}
 use Rattle.state.specs.declared.Pin.{Pin}
-use Rattle.state.specs.Lists.{pick, listed, holding, entryOf}
-use Rattle.state.specs.Pins.{those}
-use Rattle.state.specs.Asks.{cachedEnd}
+use Rattle.state.specs.Lists.{pick, listed, holding, entryOf, those}
+use Rattle.state.specs.Asks.{cachedEnd, lesser}
 use Rattle.state.proofs.Finding.{Each}
 use Rattle.shore.specs.File.{lay, putsAll}
 use Rattle.shore.proofs.Again.{absorb}
@@ -42,7 +41,7 @@ use Rattle.history.proofs.Tickets.{NoRestart, later-next}
 use Rattle.history.proofs.Marks.{Marked, tale-marked}
 use Rattle.history.proofs.Pinned.{isLiveIn, in-each, live-back}
 use Rattle.history.proofs.Reaching.{from, early, parted-from, fetched-from, Reaches, reaches-by}
-use Rattle.history.proofs.Filling.{lesser, claim-count, claim-bytes}
+use Rattle.history.proofs.Filling.{claim-count, claim-bytes}
 use Rattle.history.proofs.Demand.{agrees}
 
 -- ---- the node's held writes, as the fill has them and as the tale has them

@@ -11,19 +11,20 @@ use Rattle.layout.specs.Sizes.{slotsOf}
 use Rattle.layout.specs.Bytes.{both, round}
 use Rattle.reason.specs.declared.Reason.the-variants.{NoRoom, Unreadable, StateUnfit}
 use Rattle.layout.proofs.Tests.{sized-sound}
-use Rattle.walk.specs.Walk.{Reading, readingOf, writesOf}
+use Rattle.walk.specs.Walk.{Write, Reading, readingOf, writesOf}
 use Rattle.store.specs.Store.{isMakeable, slotsFor, made}
 use Rattle.ring.specs.Ring.{emptyRing}
 use Rattle.ring.proofs.Laws.{readable-facts, made-reads}
-use Rattle.state.specs.Lists.{any, withNext, reopened}
+use Rattle.state.specs.Lists.{any, withNext, reopened, those}
 use Rattle.state.specs.Asks.{ticketDone}
 use Rattle.shore.specs.File.{lay, putsAll}
 use Rattle.rules.specs.Call.{Call, writes, takesTicket, isOne, ringOf, entriesOf, heldOf, reopenRing}
 use Rattle.rules.specs.Refusals.{applies, refusalOf}
 use Rattle.rules.specs.Outcome.{says, lentBy, outcomeBy, doneBy, outcome}
+use Rattle.rules.proofs.Order.{same-some}
 use Rattle.rules.proofs.Staying.{reopened-stands, never-unreadable, never-unfit}
 use Rattle.history.specs.World.{World, Move, call, begins, world}
-use Rattle.history.specs.Tale.{Tale, slotsTaken, nothingYet, numbersOf, keep, isOf, inReach, isGood, tell, tellBy, tale}
+use Rattle.history.specs.Tale.{Tale, slotsTaken, nothingYet, numbersOf, isOf, inReach, isGood, tell, tellBy, tale}
 use Rattle.history.specs.Fair.{AllFair}
 use Rattle.history.proofs.Pinning.{pins-none}
 use Rattle.history.proofs.Shores.{nothing-lost}
@@ -74,11 +75,18 @@ module _ (r : List ℕ) (makeable : isMakeable (length r) ≡ true) (files : ℕ
         readable-facts (W .ring) (k .stands .ring) (k .stands .entries) (k .stands .reading) .writes ∙ ap some (k .written)
 
     -- "the shore file with the ring laid over it is the starting file with all accepted writes laid on in order"
-    pub nothing-is-lost : (n : ℕ) → lay (world (begins r files) ms .shore n) (putsAll (keep (isOf n) (tale (begins r files) ms .held)))
-        ≡ lay (files n) (putsAll (keep (isOf n) (tale (begins r files) ms .accepted)))
+    pub nothing-is-lost : (n : ℕ) → lay (world (begins r files) ms .shore n) (putsAll (those (isOf n) (tale (begins r files) ms .held)))
+        ≡ lay (files n) (putsAll (those (isOf n) (tale (begins r files) ms .accepted)))
     nothing-is-lost n =
         let k = agrees ms fair in
         nothing-lost files (W .shore) (t .accepted) (t .held) (t .good) (k .on-shore) (parted-held files W t k) n
+
+    -- the same with the ring read from its bytes
+    pub ring-over-shore : (ws : List Write) → writesOf (world (begins r files) ms .ring) ≡ some ws
+        → (n : ℕ) → lay (world (begins r files) ms .shore n) (putsAll (those (isOf n) ws)) ≡ lay (files n) (putsAll (those (isOf n) (tale (begins r files) ms .accepted)))
+    ring-over-shore ws e n =
+        let same : ws ≡ t .held = same-some ws (t .held) (sym e ∙ exactly-held) in
+        ap (λ xs. lay (W .shore n) (putsAll (those (isOf n) xs))) same ∙ nothing-is-lost n
 
     -- "and 8 and 12 never come"
     pub never-8 : (c : Call) → refusalOf c (W .ring) (W .state) ≡ some Unreadable → ⊥

@@ -3,17 +3,17 @@
 use Prim.Native.Nat.{ℕ, zero, suc, _+_, _-_, _≤_, _<_, max, min}
 use native.Mathlib.Nat.{add-zero}
 use mathlib.Core.Path.{_≡_, refl, sym, ap, _∙_}
-use mathlib.Core.Bool.{Bool, true, false}
 use mathlib.Core.Logic.{_⊎_, inl, inr}
 use mathlib.Core.List.{List, [], _∷_}
 use native.Mathlib.Omega.{arith}
-use borrow.Author.Tests.{leb-true, leb-false, lt-ltb, le-ltb}
+use borrow.Author.Tests.{lt-ltb, le-ltb}
 use lib.ListN.{length, getD}
-use lib.Dec.{leb, ltb}
+use lib.Dec.{ltb}
 use Rattle.layout.proofs.Tests.{lt-or-le}
 use Rattle.walk.specs.Walk.{Write}
 use Rattle.state.specs.Lists.{pick}
-use Rattle.state.specs.Asks.{larger}
+use Rattle.state.specs.Asks.{lesser}
+use Rattle.state.proofs.Extremes.{larger-max, lesser-min}
 use Rattle.state.proofs.Finding.{Each}
 use Rattle.shore.specs.File.{puts, putsOf, putsAll, lay}
 use Rattle.shore.specs.Cover.{byteOver}
@@ -41,13 +41,6 @@ top-puts [] o n h = absurd (omega arith)
 top-puts (b ∷ []) o n h = omega arith
 top-puts (b ∷ c ∷ bs) o n h = top-puts (c ∷ bs) (suc o) (max n (suc o)) (omega arith) ∙ omega arith
 
-larger-max : (a b : ℕ) → larger a b ≡ max a b
-larger-max a b = at (leb a b) refl
-  where
-    at : (t : Bool) → leb a b ≡ t → pick t b a ≡ max a b
-    at true e = omega (arith, leb-true a b e)
-    at false e = omega (arith, leb-false a b e)
-
 top-all : (ws : List Write) (n : ℕ) → Each (λ w. 0 < length (w .bytes)) ws → top (putsAll ws) n ≡ max n (endOf ws)
 unfolding putsAll top
 top-all [] n o = omega arith
@@ -56,16 +49,6 @@ top-all (w ∷ ws) n o =
     ∙ (let e = larger-max (w .offset + length (w .bytes)) (endOf ws) in omega arith)
 
 -- ---- the lesser of two, and the count
-
-abbrev pub lesser : ℕ → ℕ → ℕ
-lesser a b = pick (leb a b) a b
-
-lesser-min : (a b : ℕ) → lesser a b ≡ min a b
-lesser-min a b = at (leb a b) refl
-  where
-    at : (t : Bool) → leb a b ≡ t → pick t a b ≡ min a b
-    at true e = omega (arith, leb-true a b e)
-    at false e = omega (arith, leb-false a b e)
 
 count-by : (n l e : ℕ) → max (min n l) (min n e) ≡ min n (max l e)
 count-by n l e = at (lt-or-le l e)

@@ -1,4 +1,3 @@
-pub mod Keeping
 pub mod Shores
 pub mod Seeing
 pub mod Pinning
@@ -6,7 +5,7 @@ pub mod Agreeing
 pub mod Changing
 pub mod Writing
 pub mod Leaving
-pub mod Unpinning
+pub mod Numbering
 pub mod Reported
 pub mod Releasing
 pub mod Rising

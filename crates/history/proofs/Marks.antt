@@ -16,7 +16,7 @@ use Rattle.walk.specs.Walk.{Write}
 use Rattle.state.specs.declared.State.{State}
 use Rattle.state.specs.declared.Pin.{Pin}
 use Rattle.state.specs.declared.Held.{Held}
-use Rattle.state.specs.Lists.{pick}
+use Rattle.state.specs.Lists.{pick, those}
 use Rattle.state.proofs.Bools.{both-intro}
 use Rattle.state.proofs.Pairs.{any-append}
 use Rattle.state.proofs.Finding.{Each, each-by, each-join, each-right}
@@ -25,9 +25,9 @@ use Rattle.rules.specs.Flush.{hasBatch}
 use Rattle.rules.specs.Refusals.{refusalOf}
 use Rattle.rules.specs.Outcome.{reportDone, startDone, doneBy, outcome}
 use Rattle.history.specs.World.{World, Move, call, land, world}
-use Rattle.history.specs.Tale.{Tale, among, numbersOf, inReach, keep, least, leave, pinOf, tell, tellBy, tale}
+use Rattle.history.specs.Tale.{Tale, among, numbersOf, inReach, least, leave, pinOf, tell, tellBy, tale}
 use Rattle.history.specs.Fair.{AllFair}
-use Rattle.history.proofs.Keeping.{each-keep}
+use Rattle.state.proofs.Those.{each-those}
 use Rattle.history.proofs.Numbers.{told-done}
 use Rattle.history.proofs.Stepping.{refused-not}
 use Rattle.history.proofs.Tickets.{parts}
@@ -51,20 +51,20 @@ least-own own (w ∷ ws) = at (leb (w .number) (least own ws)) refl (least-own o
     at true e h = omega (arith, leb-true (w .number) (least own ws) e)
     at false e h = h
 
-least-each : (own : ℕ) (q : Write → Bool) (ws : List Write) → Each (λ w. q w ≡ true → least own (keep q ws) ≤ w .number) ws
+least-each : (own : ℕ) (q : Write → Bool) (ws : List Write) → Each (λ w. q w ≡ true → least own (those q ws) ≤ w .number) ws
 least-each own q [] = tt
 least-each own q (w ∷ ws) = at (q w) refl (least-each own q ws)
   where
     lower : (m k : ℕ) → m ≤ k → (vs : List Write) → Each (λ v. q v ≡ true → k ≤ v .number) vs → Each (λ v. q v ≡ true → m ≤ v .number) vs
     lower m k h vs o = each-by _ _ vs (λ v u z. let l = u z in omega arith) o
 
-    first : (b : Bool) → leb (w .number) (least own (keep q ws)) ≡ b → (pick b (w .number) (least own (keep q ws)) ≤ w .number) × (pick b (w .number) (least own (keep q ws)) ≤ least own (keep q ws))
-    first true e = (omega arith, leb-true (w .number) (least own (keep q ws)) e)
-    first false e = (let l = leb-false (w .number) (least own (keep q ws)) e in omega arith, omega arith)
+    first : (b : Bool) → leb (w .number) (least own (those q ws)) ≡ b → (pick b (w .number) (least own (those q ws)) ≤ w .number) × (pick b (w .number) (least own (those q ws)) ≤ least own (those q ws))
+    first true e = (omega arith, leb-true (w .number) (least own (those q ws)) e)
+    first false e = (let l = leb-false (w .number) (least own (those q ws)) e in omega arith, omega arith)
 
-    at : (b : Bool) → q w ≡ b → Each (λ v. q v ≡ true → least own (keep q ws) ≤ v .number) ws → Each (λ v. q v ≡ true → least own (pick b (w ∷ keep q ws) (keep q ws)) ≤ v .number) (w ∷ ws)
+    at : (b : Bool) → q w ≡ b → Each (λ v. q v ≡ true → least own (those q ws) ≤ v .number) ws → Each (λ v. q v ≡ true → least own (pick b (w ∷ those q ws) (those q ws)) ≤ v .number) (w ∷ ws)
     at true e o =
-        let f = first (leb (w .number) (least own (keep q ws))) refl in
+        let f = first (leb (w .number) (least own (those q ws))) refl in
         ((λ z. f .0), lower _ _ (f .1) ws o)
     at false e o = ((λ z. never (cc)), o)
 
@@ -115,7 +115,7 @@ module _ (c : Call) (r : List ℕ) (s : State) (t : Tale) (k : AllMarked (s .nex
 
   new-pin : Marked (s .next + 1) (t .good) (t .held) (pinOf t (s .next) (c .node))
   new-pin =
-      let l = least-own (s .next) (keep (stillWaits (t .good) (c .node)) (t .held)) in
+      let l = least-own (s .next) (those (stillWaits (t .good) (c .node)) (t .held)) in
       record { own = omega arith; mark = omega arith; low = least-each (s .next) (stillWaits (t .good) (c .node)) (t .held) }
 
   report-marked : (b : Bool) → c .good ≡ b → (g : Ring) (hs : List Held) → AllMarked (reportDone b g hs r s .state .next) (tellBy reports c (reportDone b g hs r s .said .values) t)
@@ -135,7 +135,7 @@ module _ (c : Call) (r : List ℕ) (s : State) (t : Tale) (k : AllMarked (s .nex
   done-marked writes e g es hs = each-by _ _ (t .live) (λ p m. marked-grows p (s .next) (t .good) (t .held) _ (omega arith) m) k
   done-marked pins e g es hs = each-join _ (t .live) (pinOf t (s .next) (c .node) ∷ []) one-more (new-pin, tt)
   done-marked unpins e g es hs =
-      each-keep _ _ (t .live) (each-by _ _ (t .live) (λ p m. marked-leaves p (s .next) (t .good) (t .good) _ (t .held) m) k)
+      each-those _ _ (t .live) (each-by _ _ (t .live) (λ p m. marked-leaves p (s .next) (t .good) (t .good) _ (t .held) m) k)
   done-marked asksEnd e g es hs = k
   done-marked reports e g es hs = report-marked (c .good) refl g hs
   done-marked starts e g es hs = start-marked (hasBatch (c .node) hs) g hs

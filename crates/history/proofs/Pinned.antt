@@ -15,7 +15,7 @@ use Rattle.walk.specs.declared.Entry.{Entry}
 use Rattle.state.specs.declared.State.{State}
 use Rattle.state.specs.declared.Pin.{Pin}
 use Rattle.state.specs.declared.Held.{Held}
-use Rattle.state.specs.Lists.{pick, any}
+use Rattle.state.specs.Lists.{pick, any, those}
 use Rattle.state.proofs.Bools.{no-both}
 use Rattle.state.proofs.Pairs.{any-append}
 use Rattle.state.proofs.Finding.{Each}
@@ -23,7 +23,7 @@ use Rattle.rules.specs.Call.{Call, Kind, makes, reopens, writes, pins, unpins, 
 use Rattle.rules.specs.Flush.{hasBatch}
 use Rattle.rules.specs.Refusals.{refusalOf}
 use Rattle.rules.specs.Outcome.{reportDone, startDone, doneBy, outcome}
-use Rattle.history.specs.Tale.{Tale, keep, pinOf, tell, tellBy}
+use Rattle.history.specs.Tale.{Tale, pinOf, tell, tellBy}
 use Rattle.history.proofs.Numbers.{told-done}
 use Rattle.history.proofs.Stepping.{refused-not}
 
@@ -70,11 +70,11 @@ in-any q p (x ∷ live) h e = at (samePin p x) refl e (in-any q p live h)
 
 -- ---- a pin that is live was live before, unless it was given just now
 
-any-keep : (q f : Pin → Bool) (live : List Pin) → any q (keep f live) ≡ true → any q live ≡ true
+any-keep : (q f : Pin → Bool) (live : List Pin) → any q (those f live) ≡ true → any q live ≡ true
 any-keep q f [] e = e
 any-keep q f (x ∷ live) e = at (f x) (q x) refl e (any-keep q f live)
   where
-    at : (b d : Bool) → q x ≡ d → any q (pick b (x ∷ keep f live) (keep f live)) ≡ true → (any q (keep f live) ≡ true → any q live ≡ true) → pick d true (any q live) ≡ true
+    at : (b d : Bool) → q x ≡ d → any q (pick b (x ∷ those f live) (those f live)) ≡ true → (any q (those f live) ≡ true → any q live ≡ true) → pick d true (any q live) ≡ true
     at b true z y k = refl
     at true false z y k = k (rw z at y)
     at false false z y k = k y

@@ -14,14 +14,14 @@ use Rattle.layout.proofs.Tests.{both-left, both-ext}
 use Rattle.walk.specs.Walk.{Write}
 use Rattle.state.specs.declared.Pin.{Pin}
 use Rattle.state.specs.declared.Held.{Held}
-use Rattle.state.specs.Lists.{pick, any, pairs, mostPins, noPin}
+use Rattle.state.specs.Lists.{pick, any, pairs, mostPins, noPin, those}
 use Rattle.state.specs.Pins.{isLive, keeps, pinPlace, hasPin, hasPinFor}
 use Rattle.state.proofs.Bools.{yes-both, no-both, both-yes, both-no, both-known}
 use Rattle.state.proofs.Loops.{any-found}
 use Rattle.state.proofs.Pairs.{any-append, pairs-before, pairs-right}
 use Rattle.state.proofs.Finding.{Each, each-by, each-true, place-there}
 use Rattle.judge.specs.Fits.{pinsDiffer}
-use Rattle.history.specs.Tale.{keep, inReach, isPinned}
+use Rattle.history.specs.Tale.{inReach, isPinned}
 
 pub record PinsAre (ps live : List Pin) : Type 0 where
   pub each : (q : Pin → Bool) → any (λ p. both (isLive p) (q p)) ps ≡ any q live
@@ -34,11 +34,11 @@ module _ {A : Type 0} (p q : A → Bool) where
   any-same (x ∷ xs) o = rw (o .0, any-same xs (o .1))
 
   -- of those that are kept
-  any-kept : (xs : List A) → any q (keep p xs) ≡ any (λ x. both (p x) (q x)) xs
+  any-kept : (xs : List A) → any q (those p xs) ≡ any (λ x. both (p x) (q x)) xs
   any-kept [] = refl
   any-kept (x ∷ xs) = at (p x) (any-kept xs)
     where
-      at : (b : Bool) → any q (keep p xs) ≡ any (λ x. both (p x) (q x)) xs → any q (pick b (x ∷ keep p xs) (keep p xs)) ≡ pick (both b (q x)) true (any (λ x. both (p x) (q x)) xs)
+      at : (b : Bool) → any q (those p xs) ≡ any (λ x. both (p x) (q x)) xs → any q (pick b (x ∷ those p xs) (those p xs)) ≡ pick (both b (q x)) true (any (λ x. both (p x) (q x)) xs)
       at true k = rw (yes-both (q x), k)
       at false k = rw (no-both (q x)) k
 
@@ -138,7 +138,7 @@ module _ (ps live : List Pin) (number : ℕ) (z : 0 < number) (i : ℕ) (e : i �
         ∙ ap (λ b. pick (any s xs) true (pick b true (any s ys))) (sym here-fails)
         ∙ sym (any-append s xs (here ∷ ys)) ∙ ap (any s) (sym (split-at ps i noPin l))
 
-  pub pins-removed : PinsAre ps live → PinsAre (set ps i noPin) (keep (λ p. not (eqb (p .number) number)) live)
+  pub pins-removed : PinsAre ps live → PinsAre (set ps i noPin) (those (λ p. not (eqb (p .number) number)) live)
   pins-removed a = record { each = λ q. removed-any q ∙ a .each (λ p. both (stays p) (q p)) ∙ sym (any-kept stays q live) }
 
 -- ---- what is asked of pins

@@ -11,14 +11,14 @@ use Rattle.layout.proofs.Tests.{both-left, both-right, true-not-false}
 use Rattle.walk.specs.Walk.{Write}
 use Rattle.state.specs.declared.State.{State}
 use Rattle.state.specs.declared.Pin.{Pin}
-use Rattle.state.specs.Lists.{pick}
+use Rattle.state.specs.Lists.{pick, those}
 use Rattle.state.proofs.Bools.{both-yes, both-intro}
 use Rattle.state.proofs.Finding.{Each, each-by}
 use Rattle.shore.specs.File.{lay, putsAll}
 use Rattle.shore.proofs.Files.{lay-append}
 use Rattle.shore.proofs.Again.{absorb, has-end}
-use Rattle.history.specs.Tale.{Tale, among, inReach, isOf, keep, leave, isPinned}
-use Rattle.history.proofs.Keeping.{keep-append, keep-none, keep-all, keep-both}
+use Rattle.history.specs.Tale.{Tale, among, inReach, isOf, leave, isPinned}
+use Rattle.state.proofs.Those.{those-append, those-none, those-all, those-both}
 use Rattle.history.proofs.Shores.{puts-append, OnShore, Parted, fileOf, ofNode, sure, waits, waiting}
 use Rattle.history.proofs.Rising.{InOrder, order-above, order-keep}
 use Rattle.history.proofs.Changes.{Change, stays, grew, letGo}
@@ -31,31 +31,31 @@ module _ (node m : ℕ) where
 
   -- a node's writes from a number on
   abbrev pub from : List Write → List Write
-  from ws = keep (λ w. both (isOf node w) (leb m (w .number))) ws
+  from ws = those (λ w. both (isOf node w) (leb m (w .number))) ws
 
   -- in number order they stand behind the others
-  split-by : (last : ℕ) (ws : List Write) → InOrder last ws → ws ≡ keep (λ w. not (high w)) ws ++ keep high ws
+  split-by : (last : ℕ) (ws : List Write) → InOrder last ws → ws ≡ those (λ w. not (high w)) ws ++ those high ws
   split-by last [] o = refl
   split-by last (w ∷ ws) o = at (leb m (w .number)) refl (split-by (w .number) ws (o .1))
     where
-      at : (b : Bool) → leb m (w .number) ≡ b → ws ≡ keep (λ w. not (high w)) ws ++ keep high ws
-          → w ∷ ws ≡ pick (not b) (w ∷ keep (λ w. not (high w)) ws) (keep (λ w. not (high w)) ws) ++ pick b (w ∷ keep high ws) (keep high ws)
+      at : (b : Bool) → leb m (w .number) ≡ b → ws ≡ those (λ w. not (high w)) ws ++ those high ws
+          → w ∷ ws ≡ pick (not b) (w ∷ those (λ w. not (high w)) ws) (those (λ w. not (high w)) ws) ++ pick b (w ∷ those high ws) (those high ws)
       at false e k = ap (_∷_ w) k
       at true e k =
           let h = leb-true m (w .number) e in
           let a : Each (λ v. high v ≡ true) ws = each-by _ _ ws (λ v l. le-leb m (v .number) (omega arith)) (order-above (w .number) ws (o .1)) in
-          let n : keep (λ w. not (high w)) ws ≡ [] = keep-none (λ w. not (high w)) ws (each-by _ _ ws (λ v z. ap not z) a) in
-          rw (n, keep-all high ws a) refl
+          let n : those (λ w. not (high w)) ws ≡ [] = those-none (λ w. not (high w)) ws (each-by _ _ ws (λ v z. ap not z) a) in
+          rw (n, those-all high ws a) refl
 
-  from-is : (ws : List Write) → from ws ≡ keep high (ofNode node ws)
-  from-is ws = keep-both (isOf node) high ws
+  from-is : (ws : List Write) → from ws ≡ those high (ofNode node ws)
+  from-is ws = those-both (isOf node) high ws
 
   abbrev pub early : List Write → List Write
-  early ws = keep (λ w. not (high w)) (ofNode node ws)
+  early ws = those (λ w. not (high w)) (ofNode node ws)
 
   pub parted-from : (last : ℕ) (ws : List Write) → InOrder last ws → putsAll (ofNode node ws) ≡ putsAll (early ws) ++ putsAll (from ws)
   parted-from last ws o =
-      ap putsAll (split-by last (ofNode node ws) (order-keep (isOf node) last ws o)) ∙ puts-append (early ws) (keep high (ofNode node ws))
+      ap putsAll (split-by last (ofNode node ws) (order-keep (isOf node) last ws o)) ∙ puts-append (early ws) (those high (ofNode node ws))
       ∙ ap (λ xs. putsAll (early ws) ++ putsAll xs) (sym (from-is ws))
 
   -- ---- at the fetch
@@ -81,16 +81,16 @@ module _ (node m : ℕ) where
         at true e u =
             (le-leb m (w .number) (o .0 (both-intro _ _ (reach-of w (both-left _ _ e)) (both-right (isOf node w) _ e))), u)
 
-    from-waits : from held ≡ keep high (sure good node held) ++ waiting good node held
+    from-waits : from held ≡ those high (sure good node held) ++ waiting good node held
     from-waits =
-        from-is held ∙ ap (keep high) (parted node) ∙ keep-append high (sure good node held) (waiting good node held)
-        ∙ ap (_++_ (keep high (sure good node held))) (keep-all high (waiting good node held) (high-waiting held low))
+        from-is held ∙ ap (those high) (parted node) ∙ those-append high (sure good node held) (waiting good node held)
+        ∙ ap (_++_ (those high (sure good node held))) (those-all high (waiting good node held) (high-waiting held low))
 
     pub fetched-from : lay (shore node) (putsAll (from held)) ≡ fileOf files accepted node
     fetched-from =
-        let e : putsAll (from held) ≡ putsAll (keep high (sure good node held)) ++ putsAll (waiting good node held) = ap putsAll from-waits ∙ puts-append (keep high (sure good node held)) (waiting good node held) in
+        let e : putsAll (from held) ≡ putsAll (those high (sure good node held)) ++ putsAll (waiting good node held) = ap putsAll from-waits ∙ puts-append (those high (sure good node held)) (waiting good node held) in
         ap (lay (shore node)) e
-        ∙ absorb (shore node) (fileOf files accepted node) (putsAll (keep high (sure good node held))) (putsAll (waiting good node held)) (k .sends node)
+        ∙ absorb (shore node) (fileOf files accepted node) (putsAll (those high (sure good node held))) (putsAll (waiting good node held)) (k .sends node)
         (ap (lay (fileOf files accepted node)) (sym e) ∙ has-from)
 
   -- ---- later
@@ -128,9 +128,9 @@ module _ (node m : ℕ) where
         ap (λ ws. lay S (putsAll (from ws))) b ∙ ap (λ ws. lay S (putsAll ws)) (left-same good (u .live) e (t .held)) ∙ k ∙ ap (λ ws. fileOf files ws node) (sym a)
     reaches-by s t u h e (grew w n a b) k =
         ap (λ ws. lay S (putsAll (from ws))) b
-        ∙ ap (λ ws. lay S (putsAll ws)) (keep-append (λ w. both (isOf node w) (high w)) (t .held) (w ∷ []))
+        ∙ ap (λ ws. lay S (putsAll ws)) (those-append (λ w. both (isOf node w) (high w)) (t .held) (w ∷ []))
         ∙ ap (lay S) (puts-append (from (t .held)) (from (w ∷ []))) ∙ lay-append (putsAll (from (t .held))) (putsAll (from (w ∷ []))) S
         ∙ ap (λ f. lay f (putsAll (from (w ∷ [])))) k ∙ ap (λ ws. lay (fileOf files (t .accepted) node) (putsAll ws)) (one-by w (omega arith))
         ∙ sym (lay-append (putsAll (ofNode node (t .accepted))) (putsAll (ofNode node (w ∷ []))) (files node))
         ∙ ap (lay (files node)) (sym (puts-append (ofNode node (t .accepted)) (ofNode node (w ∷ []))))
-        ∙ ap (λ ws. lay (files node) (putsAll ws)) (sym (keep-append (isOf node) (t .accepted) (w ∷ []))) ∙ ap (λ ws. fileOf files ws node) (sym a)
+        ∙ ap (λ ws. lay (files node) (putsAll ws)) (sym (those-append (isOf node) (t .accepted) (w ∷ []))) ∙ ap (λ ws. fileOf files ws node) (sym a)

@@ -15,7 +15,7 @@ use Rattle.ring.specs.Ring.{slotAfter, shrunk}
 use Rattle.state.specs.declared.State.{State}
 use Rattle.state.specs.declared.Pin.{Pin}
 use Rattle.state.specs.declared.Held.{Held}
-use Rattle.state.specs.Lists.{all, pairs, noPin, listed, holding, entryOf, withFlush, withPins, withHeld}
+use Rattle.state.specs.Lists.{all, pairs, noPin, listed, holding, entryOf, withFlush, withPins, withHeld, those}
 use Rattle.state.specs.Moves.{good, bad, reported}
 use Rattle.state.specs.Pins.{staying, slotsLeft, pinPlace}
 use Rattle.state.proofs.Finding.{Each, each-right, each-join}
@@ -25,7 +25,7 @@ use Rattle.rules.specs.Call.{Call, unpins, reports}
 use Rattle.rules.proofs.Fit.{held-again}
 use Rattle.rules.proofs.Standing.{stands-unpin, stands-good, stands-bad}
 use Rattle.history.specs.World.{World}
-use Rattle.history.specs.Tale.{Tale, among, numbersOf, keep, leave, tellBy}
+use Rattle.history.specs.Tale.{Tale, among, numbersOf, leave, tellBy}
 use Rattle.history.proofs.Seeing.{seen, goes, goneOf, restOf, reported-good-seen, reported-bad-seen}
 use Rattle.history.proofs.Pinning.{PinsAre, pins-removed}
 use Rattle.history.proofs.Shores.{shore-leaves, shore-good, waiting, wait-same}
@@ -60,7 +60,7 @@ module _ (files : ℕ → List ℕ) (W : World) (t : Tale) (k : Agrees files W t
     s₁ = withPins s (set (s .pins) i noPin)
 
     abbrev live : List Pin
-    live = keep (λ p. not (eqb (p .number) (c .number))) (t .live)
+    live = those (λ p. not (eqb (p .number) (c .number))) (t .live)
 
     differ : pairs pinsDiffer (s .pins) ≡ true
     unfolding pinsFit

@@ -11,7 +11,7 @@ use lib.Seq.{ext-getD}
 use lib.Dec.{eqb}
 use Rattle.layout.specs.Bytes.{both}
 use Rattle.walk.specs.Walk.{Write}
-use Rattle.state.specs.Lists.{pick}
+use Rattle.state.specs.Lists.{pick, those}
 use Rattle.state.proofs.Bools.{no-both, both-yes}
 use Rattle.state.proofs.Pairs.{any-append}
 use Rattle.state.proofs.Finding.{Each}
@@ -20,8 +20,8 @@ use Rattle.shore.proofs.Files.{put-length, put-get}
 use Rattle.sheet.specs.Sheet.{sheetOf, putsIn}
 use Rattle.sheet.proofs.Laying.{sheet-lays}
 use Rattle.history.specs.World.{nth}
-use Rattle.history.specs.Tale.{Tale, among, numbersOf, isOf, keep}
-use Rattle.history.proofs.Keeping.{keep-append, keep-none, keep-same, keep-all, keep-both}
+use Rattle.history.specs.Tale.{Tale, among, numbersOf, isOf}
+use Rattle.state.proofs.Those.{those-append, those-none, those-same, those-all, those-both}
 use Rattle.history.proofs.Shores.{waits, waiting}
 use Rattle.history.proofs.Agreeing.{Stood, SheetOut}
 
@@ -93,11 +93,11 @@ module _ (sheet : List ℕ) (shore : ℕ → List ℕ) (t : Tale) (o : SheetOut 
 
   pub rest-waits : waiting (t .good ++ b) (o .node) (t .held) ≡ o .rest
   rest-waits =
-      keep-same (waits (t .good ++ b) (o .node)) _ (t .held) (each-of (o .node) (t .held))
-      ∙ keep-both (waits (t .good) (o .node)) (λ w. not (among (w .number) b)) (t .held)
-      ∙ ap (keep (λ w. not (among (w .number) b))) (o .front) ∙ keep-append (λ w. not (among (w .number) b)) (t .batch) (o .rest)
-      ∙ ap (_++ keep (λ w. not (among (w .number) b)) (o .rest)) (keep-none (λ w. not (among (w .number) b)) (t .batch) (in-batch [] (t .batch)))
-      ∙ keep-all (λ w. not (among (w .number) b)) (o .rest) (not-each (o .rest) (o .apart))
+      those-same (waits (t .good ++ b) (o .node)) _ (t .held) (each-of (o .node) (t .held))
+      ∙ those-both (waits (t .good) (o .node)) (λ w. not (among (w .number) b)) (t .held)
+      ∙ ap (those (λ w. not (among (w .number) b))) (o .front) ∙ those-append (λ w. not (among (w .number) b)) (t .batch) (o .rest)
+      ∙ ap (_++ those (λ w. not (among (w .number) b)) (o .rest)) (those-none (λ w. not (among (w .number) b)) (t .batch) (in-batch [] (t .batch)))
+      ∙ those-all (λ w. not (among (w .number) b)) (o .rest) (not-each (o .rest) (o .apart))
 
   other-by : (n : ℕ) → (n ≡ o .node → ⊥) → (ws : List Write) → Each (λ w. among (w .number) b ≡ true → isOf (o .node) w ≡ true) ws → Each (λ w. waits (t .good ++ b) n w ≡ waits (t .good) n w) ws
   other-by n d [] u = tt
@@ -109,4 +109,4 @@ module _ (sheet : List ℕ) (shore : ℕ → List ℕ) (t : Tale) (o : SheetOut 
       at true e false z = rw (no-both (not (among (w .number) (t .good)))) (no-both false)
 
   pub others-wait : (n : ℕ) → (n ≡ o .node → ⊥) → waiting (t .good ++ b) n (t .held) ≡ waiting (t .good) n (t .held)
-  others-wait n d = keep-same (waits (t .good ++ b) n) (waits (t .good) n) (t .held) (other-by n d (t .held) (o .own))
+  others-wait n d = those-same (waits (t .good ++ b) n) (waits (t .good) n) (t .held) (other-by n d (t .held) (o .own))

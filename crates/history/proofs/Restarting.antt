@@ -22,7 +22,7 @@ use Rattle.history.specs.World.{World}
 use Rattle.history.specs.Tale.{Tale, among, numbersOf, tellBy}
 use Rattle.history.proofs.Seeing.{phaseIn, seen, back-seen}
 use Rattle.history.proofs.Pinning.{pins-none}
-use Rattle.history.proofs.Shores.{Parted, ofNode, sure, waits, waiting, shore-restarts}
+use Rattle.history.proofs.Shores.{Parted, ofNode, sure, waiting, shore-restarts}
 use Rattle.history.proofs.Agreeing.{Agrees}
 use Rattle.history.proofs.Changing.{standsAs}
 use Rattle.history.proofs.Leaving.{seen-entries}

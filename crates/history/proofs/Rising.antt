@@ -9,9 +9,9 @@ use lib.ListN.{take, drop}
 use Rattle.layout.proofs.Tests.{true-not-false}
 use Rattle.walk.specs.declared.Entry.{Entry}
 use Rattle.walk.specs.Walk.{Rising, Write, writeOf}
-use Rattle.state.specs.Lists.{pick}
+use Rattle.state.specs.Lists.{pick, those}
 use Rattle.state.proofs.Finding.{Each, each-by}
-use Rattle.history.specs.Tale.{among, numbersOf, keep}
+use Rattle.history.specs.Tale.{among, numbersOf}
 
 abbrev pub InOrder : ℕ → List Write → Type 0
 InOrder last [] = Unit {0}
@@ -30,13 +30,13 @@ pub order-above : (last : ℕ) (ws : List Write) → InOrder last ws → Each (�
 order-above last [] o = tt
 order-above last (w ∷ ws) o = (o .0, each-by _ _ ws (λ v h. let l = o .0 in omega arith) (order-above (w .number) ws (o .1)))
 
-pub order-keep : (q : Write → Bool) (last : ℕ) (ws : List Write) → InOrder last ws → InOrder last (keep q ws)
+pub order-keep : (q : Write → Bool) (last : ℕ) (ws : List Write) → InOrder last ws → InOrder last (those q ws)
 order-keep q last [] o = tt
 order-keep q last (w ∷ ws) o = at (q w) (order-keep q (w .number) ws (o .1))
   where
-    at : (b : Bool) → InOrder (w .number) (keep q ws) → InOrder last (pick b (w ∷ keep q ws) (keep q ws))
+    at : (b : Bool) → InOrder (w .number) (those q ws) → InOrder last (pick b (w ∷ those q ws) (those q ws))
     at true k = (o .0, k)
-    at false k = lower last (w .number) (keep q ws) (let l = o .0 in omega arith) k
+    at false k = lower last (w .number) (those q ws) (let l = o .0 in omega arith) k
 
 -- a number above all is none of theirs
 absent : (n : ℕ) (ws : List Write) → Each (λ w. n < w .number) ws → among n (numbersOf ws) ≡ false
@@ -63,18 +63,18 @@ order-apart (suc m) last (w ∷ ws) o = more (drop m ws) (above-drop m ws (order
     more [] u x = tt
     more (v ∷ vs) u x = (rw (ne-eqb (w .number) (v .number) (λ e. let l = u .0 in omega arith)) (x .0), more vs (u .1) (x .1))
 
-each-take-above : (n m : ℕ) (q : Write → Bool) (ws : List Write) → Each (λ w. n < w .number) ws → Each (λ w. n < w .number) (take m (keep q ws))
+each-take-above : (n m : ℕ) (q : Write → Bool) (ws : List Write) → Each (λ w. n < w .number) ws → Each (λ w. n < w .number) (take m (those q ws))
 each-take-above n zero q ws o = tt
 each-take-above n (suc m) q [] o = tt
 each-take-above n (suc m) q (w ∷ ws) o = at (q w) (each-take-above n m q ws (o .1)) (each-take-above n (suc m) q ws (o .1))
   where
-    at : (b : Bool) → Each (λ w. n < w .number) (take m (keep q ws)) → Each (λ w. n < w .number) (take (suc m) (keep q ws))
-        → Each (λ w. n < w .number) (take (suc m) (pick b (w ∷ keep q ws) (keep q ws)))
+    at : (b : Bool) → Each (λ w. n < w .number) (take m (those q ws)) → Each (λ w. n < w .number) (take (suc m) (those q ws))
+        → Each (λ w. n < w .number) (take (suc m) (pick b (w ∷ those q ws) (those q ws)))
     at true x y = (o .0, x)
     at false x y = y
 
 -- of the first m that pass, a number tells one that passes
-pub order-own : (q : Write → Bool) (m last : ℕ) (ws : List Write) → InOrder last ws → Each (λ w. among (w .number) (numbersOf (take m (keep q ws))) ≡ true → q w ≡ true) ws
+pub order-own : (q : Write → Bool) (m last : ℕ) (ws : List Write) → InOrder last ws → Each (λ w. among (w .number) (numbersOf (take m (those q ws))) ≡ true → q w ≡ true) ws
 order-own q m last [] o = tt
 order-own q m last (w ∷ ws) o = at (q w) refl m (λ j. order-own q j (w .number) ws (o .1))
   where
@@ -85,8 +85,8 @@ order-own q m last (w ∷ ws) o = at (q w) refl m (λ j. order-own q j (w .numbe
     skip ns [] u x = tt
     skip ns (v ∷ vs) u x = ((λ z. x .0 (rw (ne-eqb (w .number) (v .number) (λ e. let l = u .0 in omega arith)) at z)), skip ns vs (u .1) (x .1))
 
-    at : (b : Bool) → q w ≡ b → (m : ℕ) → ((j : ℕ) → Each (λ v. among (v .number) (numbersOf (take j (keep q ws))) ≡ true → q v ≡ true) ws)
-        → Each (λ v. among (v .number) (numbersOf (take m (pick b (w ∷ keep q ws) (keep q ws)))) ≡ true → q v ≡ true) (w ∷ ws)
+    at : (b : Bool) → q w ≡ b → (m : ℕ) → ((j : ℕ) → Each (λ v. among (v .number) (numbersOf (take j (those q ws))) ≡ true → q v ≡ true) ws)
+        → Each (λ v. among (v .number) (numbersOf (take m (pick b (w ∷ those q ws) (those q ws)))) ≡ true → q v ≡ true) (w ∷ ws)
     at true e zero h = ((λ z. e), h zero)
-    at true e (suc m) h = ((λ z. e), skip (numbersOf (take m (keep q ws))) ws above (h m))
-    at false e m h = ((λ z. absurd (true-not-false _ z (absent (w .number) (take m (keep q ws)) (each-take-above (w .number) m q ws above)))), h m)
+    at true e (suc m) h = ((λ z. e), skip (numbersOf (take m (those q ws))) ws above (h m))
+    at false e m h = ((λ z. absurd (true-not-false _ z (absent (w .number) (take m (those q ws)) (each-take-above (w .number) m q ws above)))), h m)

@@ -1,7 +1,7 @@
 -- The held writes as the tale tells them: each entry of the ring, in the state that the numbers reported good and the numbers of the batch give it.
 -- What the calls do to the held writes, and what is asked of them, is said again of the ring's writes and those numbers.
 -- Document 01, "Moves", paragraphs "Pins", "Letting go", "Flush", "Fill" and "Ticket".
-use Prim.Native.Nat.{ℕ, zero, suc, _+_, _*_, _≤_, _<_}
+use Prim.Native.Nat.{ℕ, zero, suc, _+_, _*_, _<_}
 use mathlib.Core.Path.{_≡_, refl, sym, _∙_, ap}
 use mathlib.Core.Bool.{Bool, true, false, not}
 use mathlib.Core.List.{List, [], _∷_, _++_, map, map-map, map-append, map-congr-left}
@@ -18,16 +18,16 @@ use Rattle.walk.specs.declared.Entry.{Entry}
 use Rattle.walk.specs.Walk.{Rising, Write, writeOf}
 use Rattle.state.specs.declared.Pin.{Pin}
 use Rattle.state.specs.declared.Held.{Held}
-use Rattle.state.specs.Lists.{pick, any, all, carry, unflushed, inFlight, flushed, comesBack}
+use Rattle.state.specs.Lists.{pick, any, all, carry, unflushed, inFlight, flushed, comesBack, those}
 use Rattle.state.specs.Moves.{taken, good as M·good, bad, moveOf, movedBy, reported}
-use Rattle.state.specs.Pins.{isFlushed, those, lower, lowest, valueOr, numberOfHeld, markOf, keeps, isDue, leaving, staying, waitsIn}
+use Rattle.state.specs.Pins.{isFlushed, lower, lowest, valueOr, numberOfHeld, markOf, keeps, isDue, leaving, staying, waitsIn}
 use Rattle.state.specs.Asks.{isUnflushed, waitsFor, ticketDone, larger, laterEnd, cachedEnd}
 use Rattle.state.specs.Batch.{mostBatch, isWaiting, batchOf, takeFirst, takenOf}
 use Rattle.state.proofs.Pairs.{any-append}
 use Rattle.state.proofs.Finding.{Each, each-by}
 use Rattle.sheet.specs.Sheet.{endOf}
-use Rattle.sheet.proofs.Covered.{larger-left, larger-right, larger-most}
-use Rattle.history.specs.Tale.{among, numbersOf, keep, inReach, isOf, least, isPinned, leave}
+use Rattle.state.proofs.Extremes.{larger-max}
+use Rattle.history.specs.Tale.{among, numbersOf, inReach, isOf, least, isPinned, leave}
 
 -- the state that the numbers give: Flushed if reported good, else In flight if in the batch
 abbrev pub phaseIn : List ℕ → List ℕ → ℕ → ℕ
@@ -136,7 +136,7 @@ module _ (f : ℕ → ℕ) (good batch : List ℕ) where
 
   -- the mark of a pin whose number is above every write's
   pub mark-seen : (node own : ℕ) (es : List Entry) → Each (λ e. e .number < own) es
-      → markOf node own (map (seen good batch) es) ≡ least own (keep (λ w. both (inReach node w) (not (among (w .number) good))) (map (writeOf f) es))
+      → markOf node own (map (seen good batch) es) ≡ least own (those (λ w. both (inReach node w) (not (among (w .number) good))) (map (writeOf f) es))
   unfolding markOf
   mark-seen node own [] o = refl
   mark-seen node own (e ∷ es) o =
@@ -147,7 +147,7 @@ module _ (f : ℕ → ℕ) (good batch : List ℕ) where
       hs = those (waitsIn node) (map (seen good batch) es)
 
       ws : List Write
-      ws = keep (λ w. both (inReach node w) (not (among (w .number) good))) (map (writeOf f) es)
+      ws = those (λ w. both (inReach node w) (not (among (w .number) good))) (map (writeOf f) es)
 
       at : (b : Bool) → valueOr numberOfHeld own (lowest hs) ≡ least own ws
           → valueOr numberOfHeld own (lowest (pick b (seen good batch e ∷ hs) hs)) ≡ least own (pick b (writeOf f e ∷ ws) ws)
@@ -179,7 +179,7 @@ module _ (node : ℕ) (good : List ℕ) where
   open-seen : (f : ℕ → ℕ) (e : Entry) → isWaiting node (seen good [] e) ≡ isOpen (writeOf f e)
   open-seen f e = ap (both (eqb (e .node) node)) (waits-by e (among (e .number) good))
 
-  those-seen : (f : ℕ → ℕ) (es : List Entry) → map (λ h. writeOf f (h .entry)) (those (isWaiting node) (map (seen good []) es)) ≡ keep isOpen (map (writeOf f) es)
+  those-seen : (f : ℕ → ℕ) (es : List Entry) → map (λ h. writeOf f (h .entry)) (those (isWaiting node) (map (seen good []) es)) ≡ those isOpen (map (writeOf f) es)
   those-seen f [] = refl
   those-seen f (e ∷ es) =
       ap (λ b. map (λ h. writeOf f (h .entry)) (pick b (seen good [] e ∷ hs) hs)) (open-seen f e) ∙ at (isOpen (writeOf f e)) (those-seen f es)
@@ -188,13 +188,13 @@ module _ (node : ℕ) (good : List ℕ) where
       hs = those (isWaiting node) (map (seen good []) es)
 
       ws : List Write
-      ws = keep isOpen (map (writeOf f) es)
+      ws = those isOpen (map (writeOf f) es)
 
       at : (b : Bool) → map (λ h. writeOf f (h .entry)) hs ≡ ws → map (λ h. writeOf f (h .entry)) (pick b (seen good [] e ∷ hs) hs) ≡ pick b (writeOf f e ∷ ws) ws
       at true k = ap (_∷_ (writeOf f e)) k
       at false k = k
 
-  pub batch-seen : (f : ℕ → ℕ) (es : List Entry) → map (λ h. writeOf f (h .entry)) (batchOf node (map (seen good []) es)) ≡ take mostBatch (keep isOpen (map (writeOf f) es))
+  pub batch-seen : (f : ℕ → ℕ) (es : List Entry) → map (λ h. writeOf f (h .entry)) (batchOf node (map (seen good []) es)) ≡ take mostBatch (those isOpen (map (writeOf f) es))
   unfolding batchOf
   batch-seen f es =
       map-take (λ h. writeOf f (h .entry)) mostBatch (those (isWaiting node) (map (seen good []) es)) ∙ ap (take mostBatch) (those-seen f es)
@@ -251,7 +251,7 @@ module _ (node : ℕ) (good : List ℕ) where
 
   -- the same by the tale's batch
   pub taken-told : (f : ℕ → ℕ) (last : ℕ) (es : List Entry) → Rising last es
-      → takenOf node (map (seen good []) es) ≡ map (seen good (numbersOf (take mostBatch (keep isOpen (map (writeOf f) es))))) es
+      → takenOf node (map (seen good []) es) ≡ map (seen good (numbersOf (take mostBatch (those isOpen (map (writeOf f) es))))) es
   taken-told f last es r =
       taken-seen last es r
       ∙ ap (λ ns. map (seen good ns) es)
@@ -326,36 +326,28 @@ module _ (f : ℕ → ℕ) (good batch : List ℕ) (ps live : List Pin) (k : (h 
 
 larger-by : (a b c : ℕ) → larger (larger a b) c ≡ larger a (larger b c)
 larger-by a b c =
-    let n = larger (larger a b) c in
-    let m = larger a (larger b c) in
-    let x = larger-left (larger a b) c in
-    let y = larger-left a b in
-    let z = larger-right a b in
-    let w = larger-left a (larger b c) in
-    let v = larger-right a (larger b c) in
-    let u = larger-left b c in
-    let t = larger-right b c in
-    let up : n ≤ m = larger-most (larger a b) c m (larger-most a b m w (omega arith)) (omega arith) in
-    let down : m ≤ n = larger-most a (larger b c) n (omega arith) (larger-most b c n (omega arith) (larger-right (larger a b) c)) in
+    let x = larger-max (larger a b) c in
+    let y = larger-max a b in
+    let z = larger-max a (larger b c) in
+    let w = larger-max b c in
     omega arith
 
 larger-none : (a : ℕ) → a ≡ larger a 0
 larger-none a =
-    let x = larger-left a 0 in
-    let y = larger-most a 0 a (omega arith) (omega arith) in
+    let x = larger-max a 0 in
     omega arith
 
 larger-zero : (a : ℕ) → larger 0 a ≡ a
 larger-zero a = rw (le-leb 0 a (omega arith))
 
 module _ (f : ℕ → ℕ) (good batch : List ℕ) (node : ℕ) where
-  end-seen : (a : ℕ) (es : List Entry) → carry (laterEnd node) a (map (seen good batch) es) ≡ larger a (endOf (keep (isOf node) (map (writeOf f) es)))
+  end-seen : (a : ℕ) (es : List Entry) → carry (laterEnd node) a (map (seen good batch) es) ≡ larger a (endOf (those (isOf node) (map (writeOf f) es)))
   unfolding laterEnd
   end-seen a [] = larger-none a
   end-seen a (e ∷ es) = end-seen (laterEnd node a (seen good batch e)) es ∙ at (eqb (e .node) node)
     where
       ws : List Write
-      ws = keep (isOf node) (map (writeOf f) es)
+      ws = those (isOf node) (map (writeOf f) es)
 
       at : (b : Bool) → larger (pick b (larger a (e .offset + e .length)) a) (endOf ws) ≡ larger a (endOf (pick b (writeOf f e ∷ ws) ws))
       at true =
@@ -363,5 +355,5 @@ module _ (f : ℕ → ℕ) (good batch : List ℕ) (node : ℕ) where
           ∙ ap (λ n. larger a (larger (e .offset + n) (endOf ws))) (sym (bytes-length f (e .slot * slotSize + headSize) (e .length)))
       at false = refl
 
-  pub cached-seen : (es : List Entry) → cachedEnd node (map (seen good batch) es) ≡ endOf (keep (isOf node) (map (writeOf f) es))
-  cached-seen es = end-seen 0 es ∙ larger-zero (endOf (keep (isOf node) (map (writeOf f) es)))
+  pub cached-seen : (es : List Entry) → cachedEnd node (map (seen good batch) es) ≡ endOf (those (isOf node) (map (writeOf f) es))
+  cached-seen es = end-seen 0 es ∙ larger-zero (endOf (those (isOf node) (map (writeOf f) es)))

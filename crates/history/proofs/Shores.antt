@@ -8,15 +8,15 @@ use borrow.Author.Tests.{eqb-true, eqb-false}
 use lib.Dec.{eqb}
 use Rattle.layout.specs.Bytes.{both}
 use Rattle.walk.specs.Walk.{Write}
-use Rattle.state.specs.Lists.{pick}
+use Rattle.state.specs.Lists.{pick, those}
 use Rattle.state.proofs.Bools.{both-no, no-both, both-yes, yes-both}
 use Rattle.state.proofs.Finding.{Each}
 use Rattle.shore.specs.File.{Put, put, lay, putsOf, putsAll}
 use Rattle.shore.proofs.Files.{touches, lay-append}
 use Rattle.shore.proofs.Again.{absorb, has-end, has-more, land-under}
 use Rattle.history.specs.World.{putOn}
-use Rattle.history.specs.Tale.{among, keep, isOf}
-use Rattle.history.proofs.Keeping.{keep-append, keep-none, keep-same}
+use Rattle.history.specs.Tale.{among, isOf}
+use Rattle.state.proofs.Those.{those-append, those-none, those-same}
 
 -- ---- lists kept, and puts of writes joined
 
@@ -32,20 +32,20 @@ puts-one w = append-nil (putsOf w)
 -- ---- a node's writes: all that are kept, those reported good, those that wait
 
 abbrev pub ofNode : ℕ → List Write → List Write
-ofNode n ws = keep (isOf n) ws
+ofNode n ws = those (isOf n) ws
 
 abbrev pub waits : List ℕ → ℕ → Write → Bool
 waits good n w = both (isOf n w) (not (among (w .number) good))
 
 abbrev pub waiting : List ℕ → ℕ → List Write → List Write
-waiting good n ws = keep (waits good n) ws
+waiting good n ws = those (waits good n) ws
 
 abbrev pub sure : List ℕ → ℕ → List Write → List Write
-sure good n ws = keep (λ w. both (isOf n w) (among (w .number) good)) ws
+sure good n ws = those (λ w. both (isOf n w) (among (w .number) good)) ws
 
 -- where none is good, all wait
 all-wait : (n : ℕ) (ws : List Write) → waiting [] n ws ≡ ofNode n ws
-all-wait n ws = keep-same (waits [] n) (isOf n) ws (each ws)
+all-wait n ws = those-same (waits [] n) (isOf n) ws (each ws)
   where
     each : (vs : List Write) → Each (λ w. both (isOf n w) true ≡ isOf n w) vs
     each [] = tt
@@ -53,7 +53,7 @@ all-wait n ws = keep-same (waits [] n) (isOf n) ws (each ws)
 
 -- and of those that are good none does
 none-wait : (good : List ℕ) (n : ℕ) (ws : List Write) → Each (λ w. among (w .number) good ≡ true) ws → waiting good n ws ≡ []
-none-wait good n ws o = keep-none (waits good n) ws (each ws o)
+none-wait good n ws o = those-none (waits good n) ws (each ws o)
   where
     each : (vs : List Write) → Each (λ w. among (w .number) good ≡ true) vs → Each (λ w. waits good n w ≡ false) vs
     each [] o = tt
@@ -61,7 +61,7 @@ none-wait good n ws o = keep-none (waits good n) ws (each ws o)
 
 -- so what waits is the same when they have left
 pub wait-same : (good : List ℕ) (n : ℕ) (gone ws : List Write) → Each (λ w. among (w .number) good ≡ true) gone → waiting good n (gone ++ ws) ≡ waiting good n ws
-wait-same good n gone ws o = keep-append (waits good n) gone ws ∙ ap (_++ waiting good n ws) (none-wait good n gone o)
+wait-same good n gone ws o = those-append (waits good n) gone ws ∙ ap (_++ waiting good n ws) (none-wait good n gone o)
 
 -- "for no node does a Flushed write follow one that isn't"
 abbrev pub Parted : List ℕ → List Write → Type 0
@@ -98,19 +98,19 @@ module _ (files shore : ℕ → List ℕ) (accepted held : List Write) (good : L
 
     more : (n : ℕ) → fileOf files (accepted ++ w ∷ []) n ≡ lay (fileOf files accepted n) (putsAll (ofNode n (w ∷ [])))
     more n =
-        ap (λ ws. lay (files n) (putsAll ws)) (keep-append (isOf n) accepted (w ∷ [])) ∙ ap (lay (files n)) (puts-append (ofNode n accepted) (ofNode n (w ∷ [])))
+        ap (λ ws. lay (files n) (putsAll ws)) (those-append (isOf n) accepted (w ∷ [])) ∙ ap (lay (files n)) (puts-append (ofNode n accepted) (ofNode n (w ∷ [])))
         ∙ lay-append (putsAll (ofNode n accepted)) (putsAll (ofNode n (w ∷ []))) (files n)
 
     pub shore-writes : OnShore files shore (accepted ++ w ∷ []) (held ++ w ∷ []) good
     shore-writes = record {
       sends = λ n.
-          ap (λ ws. lay (shore n) (putsAll ws)) (keep-append (waits good n) held (w ∷ []))
+          ap (λ ws. lay (shore n) (putsAll ws)) (those-append (waits good n) held (w ∷ []))
           ∙ ap (lay (shore n)) (puts-append (waiting good n held) (waiting good n (w ∷ [])))
           ∙ lay-append (putsAll (waiting good n held)) (putsAll (waiting good n (w ∷ []))) (shore n)
           ∙ ap (λ f. lay f (putsAll (waiting good n (w ∷ [])))) (k .sends n)
           ∙ sym (one-by n (isOf n w) refl (fileOf files accepted n)) ∙ sym (more n);
       has = λ n.
-          ap (λ ws. lay (fileOf files (accepted ++ w ∷ []) n) (putsAll ws)) (keep-append (isOf n) held (w ∷ []))
+          ap (λ ws. lay (fileOf files (accepted ++ w ∷ []) n) (putsAll ws)) (those-append (isOf n) held (w ∷ []))
           ∙ ap (lay (fileOf files (accepted ++ w ∷ []) n)) (puts-append (ofNode n held) (ofNode n (w ∷ [])))
           ∙ ap (λ f. lay f (putsAll (ofNode n held) ++ putsAll (ofNode n (w ∷ [])))) (more n)
           ∙ has-more (fileOf files accepted n) (putsAll (ofNode n held)) (putsAll (ofNode n (w ∷ []))) (k .has n) ∙ sym (more n);
@@ -131,7 +131,7 @@ module _ (files shore : ℕ → List ℕ) (accepted held : List Write) (good : L
       sends = λ n. ap (λ ws. lay (shore n) (putsAll ws)) (sym (ap (waiting good n) e ∙ wait-same good n gone held′ sureGone)) ∙ k .sends n;
       has = λ n.
           has-end (fileOf files accepted n) (putsAll (ofNode n gone)) (putsAll (ofNode n held′))
-          (ap (lay (fileOf files accepted n)) (sym (ap (λ ws. putsAll (ofNode n ws)) e ∙ ap putsAll (keep-append (isOf n) gone held′) ∙ puts-append (ofNode n gone) (ofNode n held′))) ∙ k .has n);
+          (ap (lay (fileOf files accepted n)) (sym (ap (λ ws. putsAll (ofNode n ws)) e ∙ ap putsAll (those-append (isOf n) gone held′) ∙ puts-append (ofNode n gone) (ofNode n held′))) ∙ k .has n);
     }
 
   -- a batch that landed whole is reported good

@@ -18,12 +18,11 @@ use Rattle.walk.proofs.Chain.{AllInRing}
 use Rattle.ring.proofs.Laws.{readable-facts}
 use Rattle.state.specs.declared.State.{State}
 use Rattle.state.specs.declared.Held.{Held}
-use Rattle.state.specs.Lists.{pick, all, listed, holding, entryOf, withNext, withFlush, withHeld}
+use Rattle.state.specs.Lists.{pick, all, listed, holding, entryOf, withNext, withFlush, withHeld, those}
 use Rattle.state.specs.Batch.{mostBatch, batchOf, takenOf}
 use Rattle.state.proofs.Bools.{both-intro}
 use Rattle.state.proofs.Finding.{Each, each-by, each-take, each-map}
-use Rattle.sheet.specs.Sheet.{sheetOf}
-use Rattle.sheet.specs.Places.{laidAt}
+use Rattle.sheet.specs.Sheet.{sheetOf, laidAt}
 use Rattle.sheet.proofs.Covered.{endsBy}
 use Rattle.sheet.proofs.Storing.{laid-front}
 use Rattle.rules.specs.Call.{Call, starts}
@@ -33,8 +32,8 @@ use Rattle.rules.proofs.Fit.{held-again}
 use Rattle.rules.proofs.Taking.{taken-entries}
 use Rattle.rules.proofs.Standing.{Real, hs-fit, hs-entries, stands-start}
 use Rattle.history.specs.World.{World}
-use Rattle.history.specs.Tale.{Tale, numbersOf, keep, tellBy}
-use Rattle.history.proofs.Keeping.{each-keep}
+use Rattle.history.specs.Tale.{Tale, numbersOf, tellBy}
+use Rattle.state.proofs.Those.{each-those}
 use Rattle.history.proofs.Seeing.{seen, isOpen, below-seen, batch-seen, taken-told}
 use Rattle.history.proofs.Agreeing.{Agrees, SheetOut, OutFits, isNone}
 use Rattle.history.proofs.Changing.{standsAs}
@@ -42,11 +41,11 @@ use Rattle.history.proofs.Rising.{InOrder, rising-order, order-keep, or
 
 -- ---- what is said of every write is said of those that are taken
 
-all-keep : (p q : Write → Bool) (ws : List Write) → all p ws ≡ true → all p (keep q ws) ≡ true
+all-keep : (p q : Write → Bool) (ws : List Write) → all p ws ≡ true → all p (those q ws) ≡ true
 all-keep p q [] o = refl
 all-keep p q (w ∷ ws) o = at (q w) (all-keep p q ws (both-right (p w) _ o))
   where
-    at : (b : Bool) → all p (keep q ws) ≡ true → all p (pick b (w ∷ keep q ws) (keep q ws)) ≡ true
+    at : (b : Bool) → all p (those q ws) ≡ true → all p (pick b (w ∷ those q ws) (those q ws)) ≡ true
     at true k = both-intro _ _ (both-left _ _ o) k
     at false k = k
 
@@ -96,7 +95,7 @@ module _ (files : ℕ → List ℕ) (W : World) (t : Tale) (k : Agrees files W t
   t′ = tellBy starts c (s .next ∷ 0 ∷ []) t
 
   abbrev batch : List Write
-  batch = take mostBatch (keep (isOpen (c .node) (t .good)) (t .held))
+  batch = take mostBatch (those (isOpen (c .node) (t .good)) (t .held))
 
   abbrev sheet : List ℕ
   sheet = sheetFor (c .node) r (k .stands .ring) hs
@@ -123,12 +122,12 @@ module _ (files : ℕ → List ℕ) (W : World) (t : Tale) (k : Agrees files W t
   is-sheet : sheet ≡ sheetOf (c .node) batch
   is-sheet =
       ap (sheetOf (c .node)) (map-twice f (batchOf (c .node) hs) ∙ ap (λ ks. map (λ h. writeOf f (h .entry)) (batchOf (c .node) ks)) told
-      ∙ batch-seen (c .node) (t .good) f es ∙ ap (λ ws. take mostBatch (keep (isOpen (c .node) (t .good)) ws)) (k .written))
+      ∙ batch-seen (c .node) (t .good) f es ∙ ap (λ ws. take mostBatch (those (isOpen (c .node) (t .good)) ws)) (k .written))
 
   taken : takenOf (c .node) hs ≡ map (seen (t .good) (numbersOf batch)) es
   taken =
       ap (takenOf (c .node)) told ∙ taken-told (c .node) (t .good) f 0 es facts
-      ∙ ap (λ ws. map (seen (t .good) (numbersOf (take mostBatch (keep (isOpen (c .node) (t .good)) ws)))) es) (k .written)
+      ∙ ap (λ ws. map (seen (t .good) (numbersOf (take mostBatch (those (isOpen (c .node) (t .good)) ws)))) es) (k .written)
 
   told′ : holding es (listed s′) ≡ map (seen (t .good) (numbersOf batch)) es
   told′ =
@@ -142,11 +141,11 @@ module _ (files : ℕ → List ℕ) (W : World) (t : Tale) (k : Agrees files W t
   below = held-below files W t k
 
   below-taken : Each (λ n. n < s .next) (numbersOf batch)
-  below-taken = each-map (λ n. n < s .next) (λ w. w .number) batch (each-take (λ w. w .number < s .next) mostBatch (keep (isOpen (c .node) (t .good)) (t .held)) (each-keep (λ w. w .number < s .next) (isOpen (c .node) (t .good)) (t .held) below))
+  below-taken = each-map (λ n. n < s .next) (λ w. w .number) batch (each-take (λ w. w .number < s .next) mostBatch (those (isOpen (c .node) (t .good)) (t .held)) (each-those (λ w. w .number < s .next) (isOpen (c .node) (t .good)) (t .held) below))
 
   ends : all (endsBy fileEnd) batch ≡ true
   ends =
-      all-take (endsBy fileEnd) mostBatch (keep (isOpen (c .node) (t .good)) (t .held)) (all-keep (endsBy fileEnd) (isOpen (c .node) (t .good)) (t .held)
+      all-take (endsBy fileEnd) mostBatch (those (isOpen (c .node) (t .good)) (t .held)) (all-keep (endsBy fileEnd) (isOpen (c .node) (t .good)) (t .held)
       (ap (all (endsBy fileEnd)) (sym (k .written)) ∙ ends-all f (k .stands .ring .n) es (readable-facts r (k .stands .ring) es (k .stands .reading) .inside)))
 
   order : InOrder 0 (t .held)
@@ -158,9 +157,9 @@ module _ (files : ℕ → List ℕ) (W : World) (t : Tale) (k : Agrees files W t
     named = v .node;
     is = is-sheet;
     ends = ends;
-    rest = drop mostBatch (keep (isOpen (c .node) (t .good)) (t .held));
-    front = sym (take-append-drop mostBatch (keep (isOpen (c .node) (t .good)) (t .held)));
-    apart = order-apart mostBatch 0 (keep (isOpen (c .node) (t .good)) (t .held)) (order-keep (isOpen (c .node) (t .good)) 0 (t .held) order);
+    rest = drop mostBatch (those (isOpen (c .node) (t .good)) (t .held));
+    front = sym (take-append-drop mostBatch (those (isOpen (c .node) (t .good)) (t .held)));
+    apart = order-apart mostBatch 0 (those (isOpen (c .node) (t .good)) (t .held)) (order-keep (isOpen (c .node) (t .good)) 0 (t .held) order);
     own = each-by _ _ (t .held) (λ w h z. both-left _ _ (h z)) (order-own (isOpen (c .node) (t .good)) mostBatch 0 (t .held) order);
     stood = λ j z q x. never (cc);
   }

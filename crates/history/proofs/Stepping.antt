@@ -1,7 +1,7 @@
 -- Every move keeps the world and the tale in agreement: a call of any kind, refused or not, and a landing.
 use Prim.Native.Nat.{ℕ, _<_}
 use mathlib.Core.Path.{_≡_, refl, sym, ap, _∙_, subst}
-use mathlib.Core.Bool.{Bool, true, false, not}
+use mathlib.Core.Bool.{Bool, true, false}
 use mathlib.Core.List.{List, [], _∷_}
 use mathlib.Core.Option.{Option, none, some}
 use native.Mathlib.Omega.{arith}
@@ -30,7 +30,7 @@ use Rattle.history.specs.Tale.{Tale, tell, tellBy, told}
 use Rattle.history.specs.Fair.{FairCall, Fair}
 use Rattle.history.proofs.Agreeing.{Agrees, OutFits, isNone}
 use Rattle.history.proofs.Writing.{agrees-write}
-use Rattle.history.proofs.Unpinning.{agrees-ticket, agrees-pin}
+use Rattle.history.proofs.Numbering.{agrees-ticket, agrees-pin}
 use Rattle.history.proofs.Releasing.{agrees-unpin, agrees-bad, agrees-good}
 use Rattle.history.proofs.Starting.{agrees-start, front-sheet}
 use Rattle.history.proofs.Restarting.{agrees-reopen}

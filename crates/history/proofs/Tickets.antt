@@ -4,7 +4,6 @@ use Prim.Native.Nat.{ℕ, _+_, _<_}
 use mathlib.Core.Path.{_≡_, refl, sym, ap, _∙_, subst}
 use mathlib.Core.Bool.{Bool, true, false, not}
 use mathlib.Core.List.{List, [], _∷_, _++_, append-assoc}
-use mathlib.Core.Option.{none}
 use native.Mathlib.Omega.{arith}
 use borrow.Author.Tests.{lt-ltb, le-ltb}
 use lib.Dec.{ltb}
@@ -17,7 +16,7 @@ use Rattle.state.specs.Lists.{pick, any}
 use Rattle.state.proofs.Bools.{no-both, yes-both}
 use Rattle.state.proofs.Pairs.{any-append}
 use Rattle.state.proofs.Finding.{Each, each-join, each-right}
-use Rattle.rules.specs.Call.{reopens, writes, isOne}
+use Rattle.rules.specs.Call.{reopens, isOne}
 use Rattle.history.specs.Tale.{Tale, among, leave, isPinned, tale}
 use Rattle.history.specs.World.{World, Move, call, land, world}
 use Rattle.history.specs.Fair.{AllFair}

@@ -24,7 +24,7 @@ use Rattle.rules.proofs.Standing.{Real, hs-entries, storable, stands-write}
 use Rattle.rules.proofs.Fit.{held-again}
 use Rattle.history.specs.World.{World}
 use Rattle.history.specs.Tale.{Tale, among, numbersOf, tellBy}
-use Rattle.history.proofs.Keeping.{keep-append}
+use Rattle.state.proofs.Those.{those-append}
 use Rattle.history.proofs.Seeing.{seen, written-seen}
 use Rattle.history.proofs.Shores.{shore-writes, waiting, waits}
 use Rattle.history.proofs.Agreeing.{Agrees, SheetOut, OutFits}
@@ -94,7 +94,7 @@ module _ (files : ℕ → List ℕ) (W : World) (t : Tale) (k : Agrees files W t
     ends = o .ends;
     rest = o .rest ++ waiting (t .good) (o .node) (x ∷ []);
     front =
-        keep-append (waits (t .good) (o .node)) (t .held) (x ∷ []) ∙ ap (_++ waiting (t .good) (o .node) (x ∷ [])) (o .front)
+        those-append (waits (t .good) (o .node)) (t .held) (x ∷ []) ∙ ap (_++ waiting (t .good) (o .node) (x ∷ [])) (o .front)
         ∙ append-assoc (t .batch) (o .rest) (waiting (t .good) (o .node) (x ∷ []));
     apart = each-join _ (o .rest) (waiting (t .good) (o .node) (x ∷ [])) (o .apart) (at (waits (t .good) (o .node) x));
     own = each-join _ (t .held) (x ∷ []) (o .own) ((λ z. never (true-not z)), tt);

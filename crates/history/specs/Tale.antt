@@ -9,7 +9,7 @@ use Rattle.layout.specs.Sizes.{slotsOf}
 use Rattle.layout.specs.Bytes.{both}
 use Rattle.walk.specs.Walk.{Write}
 use Rattle.state.specs.declared.Pin.{Pin}
-use Rattle.state.specs.Lists.{pick, any}
+use Rattle.state.specs.Lists.{pick, any, those}
 use Rattle.state.specs.Batch.{mostBatch}
 use Rattle.rules.specs.Call.{Call, Kind, makes, reopens, writes, pins, unpins, asksEnd, reports, starts, fills, takesTicket, asksTicket, asksTurn}
 use Rattle.rules.specs.Outcome.{Said, outcome}
@@ -46,10 +46,6 @@ among k ns = any (λ n. eqb n k) ns
 abbrev pub numbersOf : List Write → List ℕ
 numbersOf ws = map (λ w. w .number) ws
 
-abbrev pub keep : {A : Type 0} → (A → Bool) → List A → List A
-keep q [] = []
-keep q (x ∷ xs) = pick (q x) (x ∷ keep q xs) (keep q xs)
-
 -- of one node, or of all (node 0)
 abbrev pub inReach : ℕ → Write → Bool
 inReach node w = pick (eqb node 0) true (eqb (w .node) node)
@@ -74,7 +70,7 @@ least own [] = own
 least own (w ∷ ws) = pick (leb (w .number) (least own ws)) (w .number) (least own ws)
 
 abbrev pub pinOf : Tale → ℕ → ℕ → Pin
-pinOf t number node = record { number = number; mark = least number (keep (λ w. both (inReach node w) (not (isGood t w))) (t .held)); node = node }
+pinOf t number node = record { number = number; mark = least number (those (λ w. both (inReach node w) (not (isGood t w))) (t .held)); node = node }
 
 -- "no live pin with it in reach has a mark at or below its number"
 abbrev pub isPinned : List Pin → Write → Bool
@@ -94,13 +90,13 @@ pinned t number node = tells (t .accepted) (t .held) (t .good) (t .batch) (t .li
 
 abbrev unpinned : Tale → ℕ → Tale
 unpinned t number =
-    let live = keep (λ p. not (eqb (p .number) number)) (t .live) in
+    let live = those (λ p. not (eqb (p .number) number)) (t .live) in
     tells (t .accepted) (leave (t .good) live (t .held)) (t .good) (t .batch) live (t .landed) (t .given)
 
 -- "its oldest 32 Unflushed writes, or all if fewer"
 abbrev started : Tale → ℕ → ℕ → Tale
 started t number node =
-    let batch = take mostBatch (keep (λ w. both (isOf node w) (not (isGood t w))) (t .held)) in
+    let batch = take mostBatch (those (λ w. both (isOf node w) (not (isGood t w))) (t .held)) in
     tells (t .accepted) (t .held) (t .good) batch (t .live) [] (number ∷ t .given)
 
 -- after a good report what is due leaves; after a bad one the batch waits again

@@ -1,4 +1,4 @@
--- Pins, tickets and unpins: the world and the tale still agree.
+-- Tickets and pins: a number is taken, and the world and the tale still agree.
 use Prim.Native.Nat.{ℕ, _+_, _≤_, _<_}
 use mathlib.Core.Path.{_≡_, refl, sym, ap, _∙_}
 use mathlib.Core.Bool.{true}
@@ -16,7 +16,7 @@ use Rattle.state.specs.Lists.{noPin, listed, holding, withNext, withPins}
 use Rattle.state.specs.Pins.{isLive, markOf}
 use Rattle.state.proofs.Finding.{Each, each-by}
 use Rattle.sheet.specs.Sheet.{sheetOf}
-use Rattle.rules.specs.Call.{Call, pins, unpins, takesTicket}
+use Rattle.rules.specs.Call.{Call, pins, takesTicket}
 use Rattle.rules.specs.Outcome.{newPin}
 use Rattle.rules.proofs.Owning.{next-facts}
 use Rattle.rules.proofs.Standing.{stands-ticket, stands-pin, hs-fit}
