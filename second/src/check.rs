@@ -3,7 +3,7 @@
 use crate::count;
 use crate::coverage::Coverage;
 use crate::expect::{Expected, expected};
-use crate::history::{History, Write, painted, sheet_of};
+use crate::history::{Fetch, History, Write, painted, sheet_of};
 use crate::player::{Answer, Player};
 use crate::ring::{self, Entry, NUMBER_LIMIT};
 use crate::script::Command;
@@ -19,6 +19,10 @@ pub struct Fault {
 }
 
 type Checked = Result<(), Fault>;
+
+pub const SHORE: &str = "shore and ring";
+pub const HELD: &str = "held writes";
+pub const STATE: &str = "state";
 
 fn hold(holds: bool, rule: &'static str, detail: impl FnOnce() -> String) -> Checked {
     if holds { Ok(()) } else { Err(Fault { rule, detail: detail() }) }
@@ -47,6 +51,8 @@ pub struct Checker {
     pub standing: Standing,
     /// The files that the next ring's history starts from.
     pub starting: Files,
+    /// Rules that `check_now` leaves out; for tests that another rule finds the fault as well.
+    pub skipped: &'static [&'static str],
     pub coverage: Coverage,
 }
 
@@ -56,6 +62,7 @@ impl Default for Checker {
             history: History::default(),
             standing: Standing::Unknown,
             starting: Files::new(),
+            skipped: &[],
             coverage: Coverage::default(),
         }
     }
@@ -90,9 +97,17 @@ impl Checker {
         }
         let reading = ring::read(&player.ring);
         let reading = reading.ok_or(Fault { rule: "readable", detail: "the ring isn't readable".into() })?;
-        held_exactly(&self.history, &reading.entries)?;
-        shore_and_ring(&self.history, &reading.entries)?;
-        state_tells(&self.history, &player.state)
+        let wanted = |rule| !self.skipped.contains(&rule);
+        if wanted(SHORE) {
+            shore_and_ring(&self.history, &reading.entries)?;
+        }
+        if wanted(HELD) {
+            held_exactly(&self.history, &reading.entries)?;
+        }
+        if wanted(STATE) {
+            state_tells(&self.history, &player.state)?;
+        }
+        Ok(())
     }
 
     fn made(&mut self, step: &Step) {
@@ -119,6 +134,9 @@ impl Checker {
             return;
         }
         let sound = self.entries_held(step.after) && state_tells(&self.history, &step.after.state).is_ok();
+        if sound && self.standing == Standing::Damaged {
+            self.coverage.saw("damage undone");
+        }
         self.standing = if sound { Standing::Followed } else { Standing::Damaged };
     }
 
@@ -132,10 +150,12 @@ impl Checker {
         if restarted && self.entries_held(step.before) {
             // Reopening looks at the ring alone, and that is whole.
             self.standing = Standing::Followed;
+            self.coverage.saw("damage left by a restart");
             return self.follow(step);
         }
         let changed = step.before.ring != step.after.ring || step.before.state != step.after.state;
         if changed {
+            self.coverage.saw("call went through on damage");
             self.standing = Standing::Unknown;
         }
         Ok(())
@@ -236,7 +256,7 @@ fn held_exactly(history: &History, entries: &[Entry]) -> Checked {
             && entry.to_vec() == write.bytes
     };
     let holds = entries.len() == history.held.len() && entries.iter().zip(&history.held).all(same);
-    hold(holds, "held writes", || {
+    hold(holds, HELD, || {
         let ring: Vec<u64> = entries.iter().map(|entry| entry.number).collect();
         let due: Vec<u64> = history.held.iter().map(|write| write.number).collect();
         format!("the ring has {ring:?}, held must be {due:?}")
@@ -249,7 +269,7 @@ fn shore_and_ring(history: &History, entries: &[Entry]) -> Checked {
     let empty = Default::default();
     nodes.into_iter().try_for_each(|node| {
         let file = history.files.get(&node).unwrap_or(&empty);
-        hold(history.seen_through(node, entries) == *file, "shore and ring", || format!("node {node} differs"))
+        hold(history.seen_through(node, entries) == *file, SHORE, || format!("node {node} differs"))
     })
 }
 
@@ -262,8 +282,7 @@ fn state_tells(history: &History, state: &State) -> Checked {
         _ => Phase::Unflushed,
     };
     let phases = history.held.iter().zip(&state.listed);
-    let pins: BTreeMap<u64, (u32, u64)> =
-        state.live_pins().map(|pin| (pin.number, (pin.node, pin.mark))).collect();
+    let pins: BTreeMap<u64, (u32, u64)> = state.live_pins().map(|pin| (pin.number, (pin.node, pin.mark))).collect();
     let told_pins = history.pins.iter().map(|(&number, pin)| (number, (pin.node, pin.mark)));
     let holds = state.next == history.next
         && state.flush == flush
@@ -271,7 +290,7 @@ fn state_tells(history: &History, state: &State) -> Checked {
         && phases.clone().all(|(write, listed)| listed.number == write.number && listed.phase == phase(write) as u8)
         && pins.len() == state.live_pins().count()
         && pins == told_pins.collect();
-    hold(holds, "state", || "the state isn't what the history tells".into())
+    hold(holds, STATE, || "the state isn't what the history tells".into())
 }
 
 fn number_is_next(history: &History, answer: &Answer) -> Checked {
@@ -296,29 +315,33 @@ fn begin_flush(history: &mut History, node: u32, step: &Step) -> Checked {
     Ok(())
 }
 
-/// The fill rule by the held writes, and where the host kept the premises, the fill claim.
+/// Where the host kept the premises, the fill claim; and for every fill the rule, by the held writes.
 fn check_fill(history: &History, step: &Step, coverage: &mut Coverage) -> Checked {
-    let &Command::Fill { pin, node, offset, length, fetched, ref bytes } = step.command else { return Ok(()) };
+    let &Command::Fill { node, offset, length, fetched, ref bytes, .. } = step.command else { return Ok(()) };
+    if let Some(fetch) = fetch_of(history, step.command) {
+        let now = history.files.get(&node).map_or(Vec::new(), |file| file.read(offset, length));
+        let claimed = *step.answer == Answer::Value(now.len() as u64) && step.after.buffer[..now.len()] == now;
+        hold(claimed, "fill claim", || "the bytes aren't those of the history's file".into())?;
+        coverage.saw("fill with fetched bytes, claim held");
+        if history.good_batches[fetch.good_before..].contains(&node) {
+            coverage.saw("claim held after a batch of the node landed since the fetch");
+        }
+    }
     let mut lent = bytes.clone();
     lent.resize(length, 0xAA);
-    let filled = filled(history, node, offset, lent, fetched as usize);
-    value_is(step.answer, filled.0 as u64, "fill count")?;
-    hold(step.after.buffer == filled.1, "fill rule", || "a byte isn't the newest".into())?;
+    let (count, buffer) = filled(history, node, offset, lent, fetched as usize);
+    value_is(step.answer, count as u64, "fill count")?;
+    hold(step.after.buffer == buffer, "fill rule", || "a byte isn't the newest".into())
+}
 
-    let fetch = history.fetches.iter().find(|fetch| {
+/// The fetch whose bytes a fill brings. The history forgets fetches at a restart and when their pin goes.
+fn fetch_of<'a>(history: &'a History, command: &Command) -> Option<&'a Fetch> {
+    let &Command::Fill { pin, node, offset, length, fetched, ref bytes } = command else { return None };
+    history.fetches.iter().find(|fetch| {
         (fetch.pin, fetch.node, fetch.offset, fetch.length) == (pin, node, offset, length)
             && fetch.bytes.len() as u64 == fetched
             && fetch.bytes == *bytes
-    });
-    let Some(fetch) = fetch else { return Ok(()) };
-    let now = history.files.get(&node).map_or(Vec::new(), |file| file.read(offset, length));
-    let claimed = step.after.buffer.get(..filled.0);
-    hold(claimed == Some(&now[..]), "fill claim", || "the bytes aren't those of the history's file".into())?;
-    coverage.saw("fill with fetched bytes, claim held");
-    if history.good_batches[fetch.good_before..].contains(&node) {
-        coverage.saw("claim held after a batch of the node landed since the fetch");
-    }
-    Ok(())
+    })
 }
 
 /// What a fill makes of a lent buffer: for each byte, the newest held write that covers it is looked for.

@@ -5,7 +5,8 @@ use std::collections::BTreeMap;
 use std::fmt;
 
 /// Everything that a long run must meet at least once.
-pub const ALL: [&str; 36] = [
+#[rustfmt::skip]
+pub const ALL: [&str; 39] = [
     "refused 1", "refused 2", "refused 3", "refused 4", "refused 5", "refused 6",
     "refused 7", "refused 8", "refused 9", "refused 10", "refused 11", "refused 12",
     "nothing to flush",
@@ -32,6 +33,9 @@ pub const ALL: [&str; 36] = [
     "some bytes landed, then bad",
     "restart with a sheet out",
     "restart with a sheet partly landed",
+    "call went through on damage",
+    "damage undone",
+    "damage left by a restart",
 ];
 
 #[derive(Default, Debug, Clone)]

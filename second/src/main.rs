@@ -93,12 +93,14 @@ fn print_history(seed: u64, calls: usize) -> Result<(), Trouble> {
 
 fn check(range: Range) -> Result<(), Trouble> {
     let text = finished(range, None)?;
-    Ok(println!("{text}: every check held")) 
+    println!("{text}: every check held");
+    Ok(())
 }
 
 fn compare_all(range: Range, other: &Other) -> Result<(), Trouble> {
     let text = finished(range, Some(other))?;
-    Ok(println!("compared {text}: no difference"))
+    println!("compared {text}: no difference");
+    Ok(())
 }
 
 /// Runs the histories and prints the coverage table; gives the words for what was run.
@@ -114,7 +116,9 @@ fn finished(range: Range, other: Option<&Other>) -> Result<String, Trouble> {
 }
 
 fn compare_file(name: &OsString, other: &Other) -> Result<(), Trouble> {
-    let script = std::fs::read(name)?;
+    let cannot_read = |error| Trouble::Input(format!("can't read {}: {error}", name.to_string_lossy()));
+    let script = std::fs::read(name).map_err(cannot_read)?;
     compare(&script, &play(&script), other).map_err(Trouble::Found)?;
-    Ok(println!("{}: no difference", name.to_string_lossy()))
+    println!("{}: no difference", name.to_string_lossy());
+    Ok(())
 }

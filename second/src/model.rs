@@ -54,14 +54,7 @@ pub fn reopen(ring: &[u8], state: &mut State) -> Answer<u64> {
     Ok(state.next)
 }
 
-pub fn write(
-    ring: &mut [u8],
-    state: &mut State,
-    node: u32,
-    handle: u32,
-    offset: u32,
-    bytes: &[u8],
-) -> Answer<u64> {
+pub fn write(ring: &mut [u8], state: &mut State, node: u32, handle: u32, offset: u32, bytes: &[u8]) -> Answer<u64> {
     let opened = open(ring, state)?;
     refuse_if(node == 0, Refusal::NodeZero)?;
     refuse_if(bytes.is_empty() || bytes.len() > LARGEST_WRITE, Refusal::WriteLength)?;

@@ -103,9 +103,7 @@ impl Player {
                 *buffer = vec![BLANK; length];
                 begun(model::flush(ring, state, node, buffer)?)
             }
-            Command::Report { number, good } => {
-                model::report(ring, state, number, good).map(|()| Answer::Done)?
-            }
+            Command::Report { number, good } => model::report(ring, state, number, good).map(|()| Answer::Done)?,
             Command::Ticket => Answer::Value(model::ticket(ring, state)?),
             Command::Ask { number, node } => Answer::Value(model::ask(ring, state, number, node)?.into()),
             Command::Turn => Answer::Value(model::turn(ring, state)?.into()),

@@ -82,11 +82,8 @@ pub fn read(ring: &[u8]) -> Option<Reading<'_>> {
     let slots = slots_in(ring.len())?;
     let (header, area) = ring.split_at(HEADER);
     let (head, tail) = (header[2] as usize, header[3] as usize);
-    let good = header[0] == EDITION
-        && header[1] as usize == slots
-        && head < slots
-        && tail < slots
-        && all_zero(&header[4..]);
+    let good =
+        header[0] == EDITION && header[1] as usize == slots && head < slots && tail < slots && all_zero(&header[4..]);
     if !good {
         return None;
     }

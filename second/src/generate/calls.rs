@@ -81,12 +81,18 @@ impl Generator {
     }
 
     pub(super) fn bytes_word(&mut self, length: usize) -> String {
-        let percent = if length <= 24 { 70 } else if length <= 300 { 20 } else { 2 };
+        let percent = if length <= 24 {
+            70
+        } else if length <= 300 {
+            20
+        } else {
+            2
+        };
         if self.random.chance(percent) {
             let bytes = self.random.bytes(length);
             return hex(&bytes);
         }
-        format!("{:02x}x{length}", self.random.next() as u8)
+        format!("{:02x}x{length}", self.random.draw() as u8)
     }
 
     pub(super) fn pin(&mut self) {
@@ -158,8 +164,8 @@ impl Generator {
         };
         match fetch {
             Some(fetch) if fetch.bytes.len() < 700 || self.random.chance(10) => self.fill_fetched(&fetch),
-            Some(_) => {}
-            None => self.pin(),
+            _ if self.live_pins().is_empty() => self.pin(),
+            _ => {}
         }
     }
 

@@ -53,7 +53,7 @@ impl Generator {
     /// A byte near the one that is there, or any.
     fn other_byte(&mut self, place: usize) -> u8 {
         let old = self.player.ring.get(place).copied().unwrap_or(0);
-        let any = self.random.next() as u8;
+        let any = self.random.draw() as u8;
         self.random.pick(&[old.wrapping_add(1), old.wrapping_sub(1), 0, 1, 0x3F, 0x40, 0xFF, any])
     }
 

@@ -3,6 +3,7 @@
 use super::Generator;
 
 /// Lines that look like commands and are none, or hardly.
+#[rustfmt::skip]
 const NO_COMMANDS: [&[u8]; 48] = [
     b"", b" ", b"     ", b"# a comment", b"#", b" # not a comment", b"wirte 1 2 3 4E", b"WRITE 1 2 3 4E",
     b"write 1 2 3", b"write 1 2 3 4E 5", b" write 1 2 3 4E", b"write 1 2 3 4E ", b"write  1 2 3 4E", b"write 1 2 3 4",
@@ -15,6 +16,7 @@ const NO_COMMANDS: [&[u8]; 48] = [
 ];
 
 /// The same, for those that would change a ring or state if they went through.
+#[rustfmt::skip]
 const MORE_NO_COMMANDS: [&[u8]; 12] = [
     b"set number 254 1", b"set phase 0 256", b"set phase 254 0", b"set pin 0 1 1", b"set pin 0 1 1 4294967296",
     b"set next", b"set mark 0 1", b"poke 65296 00", b"poke 18446744073709551615 00", b"poke 0 1", b"poke 0 001",
@@ -48,7 +50,7 @@ impl Generator {
             return;
         }
         let length = 300_000 + self.random.below(2) as usize;
-        let first = self.random.pick(&[b'#', b' ', b'0']);
+        let first = self.random.pick(b"# 0");
         let line = vec![first; length];
         self.emit(&line);
     }

@@ -15,8 +15,8 @@ use crate::ring::NUMBER_LIMIT;
 use crate::script::{Command, Line, read_line};
 use plan::Plan;
 
-/// Changes what a command has done; for tests of the checks.
-pub type Twist = fn(before: &Player, command: &Command, after: &mut Player);
+/// Changes what a command has done and answered; for tests of the checks.
+pub type Twist = fn(before: &Player, command: &Command, after: &mut Player, answer: &mut Answer);
 
 /// A history as it was written and played.
 pub struct Written {
@@ -29,11 +29,13 @@ pub struct Written {
 }
 
 pub fn generate(seed: u64, calls: usize) -> Written {
-    generate_twisted(seed, calls, |_, _, _| ())
+    generate_twisted(seed, calls, |_, _, _, _| (), &[])
 }
 
-pub fn generate_twisted(seed: u64, calls: usize, twist: Twist) -> Written {
+/// A history of a box that is twisted, checked without some of the rules.
+pub fn generate_twisted(seed: u64, calls: usize, twist: Twist, skipped: &'static [&'static str]) -> Written {
     let mut generator = Generator::new(seed, calls, twist);
+    generator.checker.skipped = skipped;
     generator.start();
     while generator.calls < calls && generator.fault.is_none() {
         generator.step();
@@ -150,13 +152,15 @@ impl Generator {
         let is_look = matches!(command, Command::Look(_));
         let before = if is_look { Player::default() } else { self.player.clone() };
         let answer = self.player.run(command);
-        let Some(answer) = answer else {
+        let Some(mut answer) = answer else {
             self.output.extend(format!("? {}\n", self.line).into_bytes());
             return None;
         };
+        if !is_look {
+            (self.twist)(&before, command, &mut self.player, &mut answer);
+        }
         self.output.extend(format!("{answer}\n").into_bytes());
         if !is_look {
-            (self.twist)(&before, command, &mut self.player);
             let step = Step { before: &before, command, answer: &answer, after: &self.player };
             let checked = self.checker.observe(&step);
             self.note(checked);

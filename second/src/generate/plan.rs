@@ -9,7 +9,7 @@ type Choice = fn(&mut Generator);
 const CHOICES: [(u64, Choice); 18] = [
     (30, Generator::write),
     (8, Generator::pin),
-    (8, Generator::unpin),
+    (12, Generator::unpin),
     (5, Generator::fetch),
     (8, Generator::fill),
     (2, Generator::fill_with_anything),
@@ -23,7 +23,7 @@ const CHOICES: [(u64, Choice); 18] = [
     (2, Generator::reopen),
     (7, Generator::nonsense),
     (1, Generator::unpin_all),
-    (2, Generator::drain),
+    (4, Generator::drain),
     (1, Generator::rarely),
 ];
 
@@ -49,7 +49,7 @@ impl Plan {
             slots: random.pick(&[18, 18, 19, 20, 24, 33, 64, 130, 254, 255, any]),
             nodes,
             span: random.pick(&[12, 40, 300, 5_000, 14_000, 40_000]),
-            long: random.pick(&[0, 3, 10, 30]),
+            long: random.pick(&[0, 3, 10, 30, 30]),
             weights,
         }
     }
@@ -69,7 +69,7 @@ impl Plan {
 fn draw_node(random: &mut Random) -> u32 {
     match random.below(8) {
         0 => u32::MAX,
-        1 => random.next() as u32 | 1,
+        1 => random.draw() as u32 | 1,
         2 => 0x0100_0000,
         _ => random.between(1, 9) as u32,
     }
