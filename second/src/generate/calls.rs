@@ -263,6 +263,33 @@ impl Generator {
         }
     }
 
+    /// Long writes go through the ring one after the other, so that entries come to lie across its end.
+    pub(super) fn churn(&mut self) {
+        self.unpin_all();
+        for _ in 0..self.random.between(5, 15) {
+            let (node, length) = (self.node(), self.random.between(233, 2_000));
+            let offset = self.offset(length);
+            let bytes = self.bytes_word(length as usize);
+            self.call(&format!("write {node} 5 {offset} {bytes}"));
+            self.flush();
+            self.report();
+        }
+    }
+
+    /// A read that begins before a flush and ends after it.
+    pub(super) fn read_across_a_flush(&mut self) {
+        self.write();
+        self.pin();
+        let fetch = self.fetched();
+        self.flush();
+        self.land();
+        self.report();
+        if let Some(fetch) = fetch {
+            self.fill_fetched(&fetch);
+        }
+        self.unpin();
+    }
+
     pub(super) fn ticket(&mut self) {
         if let Some(Answer::Value(number)) = self.call("ticket") {
             self.tickets.push(number);
