@@ -1,7 +1,7 @@
 //! The second program: document 01 once more, in ordinary Rust.
 //!
 //! `model` holds the twelve calls, `script` and `player` the bench script over them. `history` and `shore` follow what
-//! the calls mean from outside, and `check` holds both together. `generate` writes random histories; `compare` plays
+//! the calls mean from outside, and `check` asks the `rules` of each step. `generate` writes random histories; `compare` plays
 //! them against another program.
 
 pub mod check;
@@ -19,6 +19,7 @@ pub mod player;
 pub mod random;
 pub mod refusal;
 pub mod ring;
+pub mod rules;
 pub mod script;
 pub mod sheet;
 pub mod shore;

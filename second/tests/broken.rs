@@ -1,13 +1,13 @@
 //! Boxes that are broken in the ways document 01 warns of. The checks must find each one, from outside: nothing here
 //! looks at the phases and marks in the state. And the whole box must pass.
 
-use second::check::{HELD, SHORE, STATE};
 use second::fit::{self, Held};
 use second::generate::{Twist, generate_twisted};
 use second::model;
 use second::player::{Answer, Player};
 use second::refusal::Refusal;
 use second::ring::{self, Entry, NewEntry};
+use second::rules::{HELD, SHORE, STATE};
 use second::script::Command;
 use second::sheet::sheet;
 use second::state::Phase;

@@ -39,59 +39,21 @@ fn long_lines() {
     says(&long(b'x', 300_000), "? 1\nok\n");
 }
 
+#[rustfmt::skip]
+const NO_COMMANDS: &[&str] = &[
+    " make 4624", "make 4624 ", "make  4624", "make", "make 4624 1", "Make 4624", "make +1", "make -1", "make 1.0",
+    "make 140001", "make 18446744073709551616", "make\t4624", "flush 1 140001", "fill 1 1 0 140001 0 -",
+    "fill 1 1 0 1 0 1122", "fill 1 1 0 1 0", "write 1 1 1 1", "write 1 1 1 111", "write 1 1 1 1g", "write 1 1 1 11X1",
+    "write 1 1 1 11x", "write 1 1 1 x1", "write 1 1 1 1x1", "write 1 1 1 11x1x1", "write 1 1 1 11x140001",
+    "write 1 1 1 --", "write 4294967296 1 1 11", "write 1 4294967296 1 11", "write 1 1 4294967296 11",
+    "pin 4294967296", "report 1 Good", "report 1", "report good 1", "sum", "sum state", "ring 1 0", "ring 0 1",
+    "buffer 0 1", "poke 0 00", "set phase 0 256", "set phase 254 0", "set number 254 0", "set pin 16 0 0 0",
+    "set pin 0 0 0 4294967296", "set nothing 0", "set next", "set next 18446744073709551616", "turn 1", "é",
+];
+
 #[test]
 fn no_commands() {
-    for line in [
-        " make 4624",
-        "make 4624 ",
-        "make  4624",
-        "make",
-        "make 4624 1",
-        "Make 4624",
-        "make +1",
-        "make -1",
-        "make 1.0",
-        "make 140001",
-        "make 18446744073709551616",
-        "make\t4624",
-        "flush 1 140001",
-        "fill 1 1 0 140001 0 -",
-        "fill 1 1 0 1 0 1122",
-        "fill 1 1 0 1 0",
-        "write 1 1 1 1",
-        "write 1 1 1 111",
-        "write 1 1 1 1g",
-        "write 1 1 1 11X1",
-        "write 1 1 1 11x",
-        "write 1 1 1 x1",
-        "write 1 1 1 1x1",
-        "write 1 1 1 11x1x1",
-        "write 1 1 1 11x140001",
-        "write 1 1 1 --",
-        "write 4294967296 1 1 11",
-        "write 1 4294967296 1 11",
-        "write 1 1 4294967296 11",
-        "pin 4294967296",
-        "report 1 Good",
-        "report 1",
-        "report good 1",
-        "sum",
-        "sum state",
-        "ring 1 0",
-        "ring 0 1",
-        "buffer 0 1",
-        "poke 0 00",
-        "set phase 0 256",
-        "set phase 254 0",
-        "set number 254 0",
-        "set pin 16 0 0 0",
-        "set pin 0 0 0 4294967296",
-        "set nothing 0",
-        "set next",
-        "set next 18446744073709551616",
-        "turn 1",
-        "é",
-    ] {
+    for line in NO_COMMANDS {
         says(line.as_bytes(), "? 1\n");
     }
     says(&[0, 0xFF, 0x80], "? 1\n");

@@ -17,6 +17,8 @@ impl Generator {
             1..4 => vec![self.poke_header()],
             4..9 => vec![self.poke_entry()],
             9 => vec![self.poke_anywhere()],
+            10 => vec![self.poke_header(), self.set_something()],
+            11 => vec![self.set_pin(), self.set_phase()],
             _ => vec![self.set_something()],
         };
         for damage in &done {
@@ -96,8 +98,9 @@ impl Generator {
     fn odd_value(&mut self, old: u64) -> u64 {
         let next = self.player.state.next;
         let any = self.random.below(next.max(1));
-        let choices = [0, 1, old.wrapping_add(1), old.wrapping_sub(1), next, next.wrapping_sub(1), 1 << 62, any, any];
-        self.random.pick(&choices)
+        let limits = [0, 1, 1 << 62, (1 << 62) + 1, u64::MAX];
+        let near = [old.wrapping_add(1), old.wrapping_sub(1), next, next.wrapping_sub(1), any, any];
+        if self.random.chance(40) { self.random.pick(&limits) } else { self.random.pick(&near) }
     }
 
     fn set_something(&mut self) -> Damage {

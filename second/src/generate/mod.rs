@@ -7,11 +7,12 @@ mod looks;
 mod nonsense;
 mod plan;
 
-use crate::check::{Checker, Fault, Standing, Step};
+use crate::check::{Checker, Standing, Step};
 use crate::coverage::Coverage;
 use crate::player::{Answer, Player};
 use crate::random::Random;
 use crate::ring::NUMBER_LIMIT;
+use crate::rules::Fault;
 use crate::script::{Command, Line, read_line};
 use plan::Plan;
 
