@@ -121,13 +121,13 @@ fn entry_at(area: &[u8], slot: usize, left: usize) -> Option<Entry<'_>> {
         back,
     };
     let content = ENTRY_HEAD + length;
-    let (filler, more) = span(area, start + content, slots_of(length) * SLOT - content);
+    // Filler lies within the last slot, so the ring's end never cuts it.
+    let (filler, _) = span(area, start + content, slots_of(length) * SLOT - content);
     let valid = (1..NUMBER_LIMIT).contains(&entry.number)
         && entry.node != 0
         && u64::from(entry.offset) + length as u64 <= FILE_LIMIT
         && all_zero(&head[22..])
-        && all_zero(filler)
-        && all_zero(more);
+        && all_zero(filler);
     valid.then_some(entry)
 }
 

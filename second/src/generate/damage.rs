@@ -1,8 +1,17 @@
 //! Damage to ring and state, a few calls on what is left, and mostly a way back.
 
 use super::Generator;
-use crate::ring::{HEADER, SLOT};
+use crate::ring::{self, Entry, FILE_LIMIT, HEADER, NUMBER_LIMIT, SLOT, slots_of};
 use crate::state::{Listed, Pin};
+
+/// Where an entry lies.
+#[derive(Clone, Copy)]
+struct Placed {
+    slot: usize,
+    start: usize,
+    number: u64,
+    length: usize,
+}
 
 /// A line that damages, and the line that undoes it.
 struct Damage {
@@ -13,9 +22,10 @@ struct Damage {
 impl Generator {
     pub(super) fn damage(&mut self) {
         let done: Vec<Damage> = match self.random.below(20) {
-            0 => self.recast_state(),
-            1..4 => vec![self.poke_header()],
-            4..9 => vec![self.poke_entry()],
+            0 | 1 => self.recast_state(),
+            2 => vec![self.poke_header()],
+            3..6 => vec![self.poke_entry()],
+            6..9 => self.poke_field(),
             9 => vec![self.poke_anywhere()],
             10 => vec![self.poke_header(), self.set_something()],
             11 => vec![self.set_pin(), self.set_phase()],
@@ -25,7 +35,7 @@ impl Generator {
             self.emit(damage.line.as_bytes());
         }
         self.emit(b"state");
-        for _ in 0..self.random.below(4) {
+        for _ in 0..self.random.between(1, 3) {
             self.any_call();
         }
         self.end_damage(&done);
@@ -65,28 +75,66 @@ impl Generator {
         self.poke(place, byte)
     }
 
-    /// A byte of an entry's head, of its filler, or of what it holds.
+    /// A byte of an entry's head, or any of its last slot, which is where its filler lies.
     fn poke_entry(&mut self) -> Damage {
-        let starts = self.entry_starts();
-        if starts.is_empty() {
+        let placed = self.placed_entries();
+        if placed.is_empty() {
             return self.poke_anywhere();
         }
-        let start = self.random.pick(&starts);
-        let within = if self.random.chance(75) { self.random.below(24) } else { self.random.below(SLOT as u64) };
-        let place = start + within as usize;
+        let slots = self.player.ring[1] as usize;
+        let wrapped = placed.iter().find(|entry| entry.slot + slots_of(entry.length) > slots);
+        let entry = match wrapped {
+            Some(&wrapped) if self.random.chance(50) => wrapped,
+            _ => self.random.pick(&placed),
+        };
+        let place = if self.random.chance(60) {
+            entry.start + self.random.below(24) as usize
+        } else {
+            let last = (entry.slot + slots_of(entry.length) - 1) % slots;
+            let any = self.random.below(SLOT as u64) as usize;
+            HEADER + last * SLOT + self.random.pick(&[255, 254, 24, 23, any])
+        };
         let byte = self.other_byte(place);
         self.poke(place, byte)
     }
 
-    fn entry_starts(&self) -> Vec<usize> {
-        let Some(reading) = crate::ring::read(&self.player.ring) else { return Vec::new() };
-        let mut slot = reading.head;
-        let mut starts = Vec::new();
-        for entry in &reading.entries {
-            starts.push(HEADER + slot * SLOT);
-            slot = (slot + entry.slots()) % reading.slots;
+    /// A whole field of an entry gets a value at or beside its limits.
+    fn poke_field(&mut self) -> Vec<Damage> {
+        let placed = self.placed_entries();
+        if placed.is_empty() {
+            return vec![self.poke_anywhere()];
         }
-        starts
+        let long = placed.iter().position(|entry| entry.length > 4072);
+        let index = match long {
+            Some(long) if self.random.chance(50) => long,
+            _ => self.random.below(placed.len() as u64) as usize,
+        };
+        let entry = placed[index];
+        let before = if index == 0 { 0 } else { placed[index - 1].number };
+        let after = placed.get(index + 1).map_or(0, |next| next.number);
+        let room = FILE_LIMIT - entry.length as u64;
+        let length = entry.length as u64;
+        let (at, size, value) = match self.random.below(6) {
+            0 | 1 => (0, 8, self.random.pick(&[0, before, before + 1, after, NUMBER_LIMIT - 1, NUMBER_LIMIT])),
+            2 => (8, 4, 0),
+            3 => (16, 4, self.random.pick(&[room, room + 1, FILE_LIMIT, u32::MAX.into()])),
+            4 if length > 4072 => (20, 2, 4097),
+            4 => (20, 2, self.random.pick(&[0, 1, length + 1, length - 1, 4096])),
+            _ => (20, 4, length + (1 << self.random.between(16, 31))),
+        };
+        let bytes = value.to_le_bytes();
+        (0..size).map(|byte| self.poke(entry.start + at + byte, bytes[byte])).collect()
+    }
+
+    fn placed_entries(&self) -> Vec<Placed> {
+        let Some(reading) = ring::read(&self.player.ring) else { return Vec::new() };
+        let mut slot = reading.head;
+        let place = |entry: &Entry| {
+            let placed = Placed { slot, start: HEADER + slot * SLOT, number: entry.number, length: entry.length() };
+            slot = (slot + entry.slots()) % reading.slots;
+            placed
+        };
+        reading.entries.iter().map(place).collect()
     }
 
     fn poke_anywhere(&mut self) -> Damage {
@@ -154,11 +202,14 @@ impl Generator {
 
     /// New phases for all listed writes, which mostly fit: for each node Flushed ones, then In flight, then Unflushed.
     fn recast_state(&mut self) -> Vec<Damage> {
-        let Some(reading) = crate::ring::read(&self.player.ring) else { return vec![self.set_something()] };
+        if self.random.chance(30) {
+            self.many_small_writes();
+        }
+        let Some(reading) = ring::read(&self.player.ring) else { return vec![self.set_something()] };
         let nodes: Vec<u32> = reading.entries.iter().map(|entry| entry.node).collect();
-        let out = self.random.pick(&self.plan.nodes);
-        let (flushed, in_flight) = (self.random.below(4), self.random.pick(&[0, 1, 3, 40]));
-        let mut done = vec![self.set_pin()];
+        let out = self.plan.nodes[0];
+        let (flushed, in_flight) = (self.random.pick(&[0, 0, 1, 3]), self.random.pick(&[0, 1, 3, 40, 40]));
+        let mut done = if self.random.chance(50) { vec![self.set_pin()] } else { Vec::new() };
         for place in 0..nodes.len() {
             let rank = nodes[..place].iter().filter(|&&node| node == nodes[place]).count() as u64;
             let phase = match rank {

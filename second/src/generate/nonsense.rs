@@ -89,11 +89,7 @@ impl Generator {
     /// What a history needs once or twice: more pins than there can be, a far next number, another ring.
     pub(super) fn rarely(&mut self) {
         match self.random.below(6) {
-            0 | 1 => {
-                for _ in 0..self.random.between(10, 18) {
-                    self.pin();
-                }
-            }
+            0 | 1 => self.many_pins(),
             2 => self.numbers_run_out(),
             3 => self.many_small_writes(),
             4 => {
@@ -106,7 +102,16 @@ impl Generator {
         }
     }
 
+    fn many_pins(&mut self) {
+        for _ in 0..self.random.between(10, 18) {
+            self.pin();
+        }
+    }
+
     fn numbers_run_out(&mut self) {
+        if self.random.chance(30) {
+            self.many_pins();
+        }
         let next = NUMBER_LIMIT - self.random.below(7);
         if next >= self.player.state.next {
             self.emit(format!("set next {next}").as_bytes());
@@ -116,7 +121,7 @@ impl Generator {
         }
     }
 
-    fn many_small_writes(&mut self) {
+    pub(super) fn many_small_writes(&mut self) {
         for _ in 0..self.random.between(20, 60) {
             let (node, offset) = (self.plan.nodes[0], self.random.below(90));
             let bytes = self.bytes_word(1);
