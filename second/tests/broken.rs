@@ -11,20 +11,19 @@ use second::rules::{HELD, SHORE, STATE};
 use second::script::Command;
 use second::sheet::sheet;
 use second::state::Phase;
-use std::collections::BTreeSet;
 
-const SEEDS: u64 = 30;
+const SEEDS: u64 = 200;
 const CALLS: usize = 300;
 
-/// The rules that first tell on a box, over some histories without damage.
-fn rules_broken(twist: Twist, skipped: &'static [&'static str]) -> BTreeSet<&'static str> {
+/// The rule that first tells on a box, for each of many histories without damage.
+fn rules_broken(twist: Twist, skipped: &'static [&'static str]) -> impl Iterator<Item = &'static str> {
     let seeds = (0..SEEDS).map(|index| 2 * index);
-    seeds.filter_map(|seed| generate_twisted(seed, CALLS, twist, skipped).fault).map(|(_, fault)| fault.rule).collect()
+    seeds.filter_map(move |seed| generate_twisted(seed, CALLS, twist, skipped).fault).map(|(_, fault)| fault.rule)
 }
 
+/// In one of the histories, this rule is the first to tell.
 fn finds(rule: &str, twist: Twist, skipped: &'static [&'static str]) {
-    let rules = rules_broken(twist, skipped);
-    assert!(rules.contains(rule), "{rule} is not among {rules:?}");
+    assert!(rules_broken(twist, skipped).any(|found| found == rule), "{rule} never told");
 }
 
 /// The ring again with only those entries that stay.
@@ -44,7 +43,7 @@ fn rebuild(player: &mut Player, stays: impl Fn(&Held) -> bool) {
 
 #[test]
 fn whole_box_passes() {
-    assert_eq!(rules_broken(|_, _, _, _| (), &[]), BTreeSet::new());
+    assert_eq!(rules_broken(|_, _, _, _| (), &[]).next(), None);
 }
 
 /// A pin's own number is its mark while older writes wait.
@@ -151,8 +150,8 @@ fn reopening_drops_flushed(before: &Player, command: &Command, after: &mut Playe
 
 #[test]
 fn reopening_drops_flushed_is_found() {
-    let rules = rules_broken(reopening_drops_flushed, &[STATE]);
-    assert!(rules.contains(HELD) || rules.contains("reopening"), "{rules:?}");
+    finds(HELD, reopening_drops_flushed, &[STATE]);
+    finds("reopening", reopening_drops_flushed, &[STATE]);
 }
 
 /// The impostors of "How firmly each answer is tied down".
