@@ -68,7 +68,8 @@ fn in_flight_fit(held: &[Held], flush: u64) -> bool {
         return flush == 0;
     };
     let node = first.entry.node;
+    let one_node = held.iter().filter(in_flight).all(|write| write.entry.node == node);
     let count = held.iter().filter(in_flight).count();
     let oldest = held.iter().filter(|write| write.entry.node == node && write.phase != Phase::Flushed);
-    flush != 0 && oldest.take(count).all(|write| write.phase == Phase::InFlight)
+    flush != 0 && one_node && oldest.take(count).all(|write| write.phase == Phase::InFlight)
 }

@@ -55,6 +55,8 @@ fn ring_bytes_that_stay_readable() {
 #[test]
 fn states_that_do_not_fit() {
     let misfits = [
+        // Two nodes in flight, each with all it has.
+        "set flush 4\nset phase 0 1\nset phase 1 1\nset phase 2 1\nset phase 3 1",
         "set number 0 2",
         "set count 3",
         "set count 5",
