@@ -12,6 +12,15 @@ pub struct Taken {
     pub ended: bool,
 }
 
+// Puts a byte behind those that the line has, and answers how many it has then.
+fn put(line: &mut [u8], at: usize, byte: u8) -> usize {
+    if line.len() <= at {
+        return line.len() + 1;
+    }
+    line[at] = byte;
+    at + 1
+}
+
 // Takes bytes of a chunk from a place on, up to a line's end, and puts them behind those that the line has.
 pub fn take(chunk: &[u8], from: usize, line: &mut [u8], filled: usize) -> Taken
     requires { ⌜ from < length (now chunk) ⌝ }
@@ -29,12 +38,7 @@ pub fn take(chunk: &[u8], from: usize, line: &mut [u8], filled: usize) -> Taken
                 ended: true,
             };
         }
-        if at < line.len() {
-            line[at] = byte;
-        }
-        if at <= line.len() {
-            at += 1;
-        }
+        at = put(line, at, byte);
     }
     Taken {
         next: i,

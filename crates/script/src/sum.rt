@@ -1,4 +1,5 @@
 // The CRC-32 of IEEE 802.3, by a table of what each byte does.
+ghost use Prim.Native.Nat.{_<_};
 
 const TABLE: [u32; 256] = [
     0x00000000,
@@ -259,19 +260,27 @@ const TABLE: [u32; 256] = [
     0x2D02EF8D,
 ];
 
+// A byte as a place in the table.
+fn place(byte: u8) -> usize
+    ensures { λ r. ⌜ r < 256 ⌝ }
+{
+    byte as usize
+}
+
 // The remainder with one byte more.
-fn step(crc: u32, byte: u8) -> u32 {
-    let at = ((crc % 256) as u8 ^ byte) as usize;
-    TABLE[at] ^ (crc / 256)
+fn step(remainder: u32, byte: u8) -> u32 {
+    let low = (remainder % 256) as u8;
+    let at = place(low ^ byte);
+    TABLE[at] ^ (remainder / 256)
 }
 
 // The sum of some bytes.
 pub fn sum_of(bytes: &[u8]) -> u32 {
-    let mut crc = u32::MAX;
+    let mut remainder = u32::MAX;
     let mut i = 0;
     while i < bytes.len() {
-        crc = step(crc, bytes[i]);
+        remainder = step(remainder, bytes[i]);
         i += 1;
     }
-    crc ^ u32::MAX
+    remainder ^ u32::MAX
 }

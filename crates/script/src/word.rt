@@ -30,21 +30,19 @@ pub enum Size {
 // How many words a line has; 0 if one of them is empty.
 pub fn count(line: &[u8]) -> usize {
     let mut words = 1;
-    let mut empty = true;
+    let mut from = 0;
     let mut i = 0;
     while i < line.len() {
         if line[i] == b' ' {
-            if empty {
+            if i == from {
                 return 0;
             }
             words += 1;
-            empty = true;
-        } else {
-            empty = false;
+            from = i + 1;
         }
         i += 1;
     }
-    if empty { 0 } else { words }
+    if from == i { 0 } else { words }
 }
 
 // Where the word ends that starts at a place: at the next space, or at the line's end.

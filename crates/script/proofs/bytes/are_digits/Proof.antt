@@ -1,48 +1,39 @@
-use native.Mathlib.Omega.{arith}
+-- `script::bytes::are_digits` is safe and ends: i stays within the word.
+use Prim.Native.Nat.{_-_, _≤_}
+use lib.ListN.{length}
 use borrow.Author.Needs.{needs}
 use Rattle.script.proofs.bytes.are_digits.Statement.{statement}
 use Rattle.script.proofs.bytes.are_digits.Tie as tie
-use Rattle.script.proofs.bytes.are_digits.Reads as reads
-use Rattle.script.proofs.bytes.are_digits.Lts as lts
-use Rattle.script.proofs.bytes.digit.Reads as digit-reads
 
 abbrev Inv-loop : tie.InvT-loop
-Inv-loop word i₀ i = ?
+Inv-loop word i₀ i = i ≤ length word
 
 abbrev μ-loop : tie.MeasureT-loop
-μ-loop word i₀ i = ?
+μ-loop word i₀ i = length word - i
 
--- src/bytes.rt:71:5
 loop-holds : tie.Need-loop-holds Inv-loop μ-loop
-loop-holds c = ?
+loop-holds c = search needs
 
--- src/bytes.rt:72:18
 shared-slice-read-digit : tie.Need-shared-slice-read-digit Inv-loop μ-loop
-shared-slice-read-digit c = ?
+shared-slice-read-digit c = search needs
 
--- src/bytes.rt:72:12
 digit-requires : tie.Need-digit-requires Inv-loop μ-loop
-digit-requires c κs = ?
+digit-requires c κs = search needs
 
--- src/bytes.rt:73:13
 returns : tie.Need-returns Inv-loop μ-loop
-returns c = ?
+returns c = search needs
 
--- src/bytes.rt:75:9
 add-i : tie.Need-add-i Inv-loop μ-loop
-add-i c = ?
+add-i c = search needs
 
--- src/bytes.rt:71:5
 loop-less : tie.Need-loop-less Inv-loop μ-loop
-loop-less c = ?
+loop-less c = search needs
 
--- src/bytes.rt:71:5
 loop-again : tie.Need-loop-again Inv-loop μ-loop
-loop-again c = ?
+loop-again c = search needs
 
--- src/bytes.rt:69:1
 returns-2 : tie.Need-returns-2 Inv-loop μ-loop
-returns-2 c = ?
+returns-2 c = search needs
 
 pub are-digits-spec : {M : Type 1} → statement M
 are-digits-spec =

@@ -1,43 +1,39 @@
+-- `script::bytes::fill` is safe and ends: i stays within the slice, which keeps its length.
+use Prim.Native.Nat.{_-_, _≤_}
+use mathlib.Core.Path.{_≡_}
 use native.Mathlib.Omega.{arith}
+use lib.ListN.{length}
 use borrow.Author.Needs.{needs}
+use lib.ListN.{length-set}
 use Rattle.script.proofs.bytes.fill.Statement.{statement}
 use Rattle.script.proofs.bytes.fill.Tie as tie
-use Rattle.script.proofs.bytes.fill.Reads as reads
-use Rattle.script.proofs.bytes.fill.Lts as lts
 
 abbrev Inv-loop : tie.InvT-loop
-Inv-loop out₀ byte i₀ out i = ?
+Inv-loop out₀ byte i₀ out i = (i ≤ length out) × (length out ≡ length out₀)
 
 abbrev μ-loop : tie.MeasureT-loop
-μ-loop out₀ byte i₀ out i = ?
+μ-loop out₀ byte i₀ out i = length out₀ - i
 
--- src/bytes.rt:117:5
 loop-holds : tie.Need-loop-holds Inv-loop μ-loop
-loop-holds c = ?
+loop-holds c = search needs
 
--- src/bytes.rt:118:9
 slice-write-out : tie.Need-slice-write-out Inv-loop μ-loop
-slice-write-out c = ?
+slice-write-out c = search needs
 
--- src/bytes.rt:119:9
 add-i : tie.Need-add-i Inv-loop μ-loop
-add-i c = ?
+add-i c = search needs
 
--- src/bytes.rt:117:5
 loop-less : tie.Need-loop-less Inv-loop μ-loop
-loop-less c = ?
+loop-less c = search needs
 
--- src/bytes.rt:117:5
 loop-again : tie.Need-loop-again Inv-loop μ-loop
-loop-again c = ?
+loop-again c = (simp length-set (omega arith), simp length-set (omega arith))
 
--- src/bytes.rt:115:1
 same-length : tie.Need-same-length Inv-loop μ-loop
-same-length c = ?
+same-length c = search needs
 
--- src/bytes.rt:115:1
 returns : tie.Need-returns Inv-loop μ-loop
-returns c = ?
+returns c = search needs
 
 pub fill-spec : {M : Type 1} → statement M
 fill-spec =

@@ -1,64 +1,54 @@
+-- `script::bytes::lay_pairs` is safe and ends: both places stay within their slices.
+use Prim.Native.Nat.{_-_, _≤_}
+use mathlib.Core.Path.{_≡_}
 use native.Mathlib.Omega.{arith}
+use lib.ListN.{length}
 use borrow.Author.Needs.{needs}
+use lib.ListN.{length-set}
 use Rattle.script.proofs.bytes.lay_pairs.Statement.{statement}
 use Rattle.script.proofs.bytes.lay_pairs.Tie as tie
-use Rattle.script.proofs.bytes.lay_pairs.Reads as reads
-use Rattle.script.proofs.bytes.lay_pairs.Lts as lts
-use Rattle.script.proofs.bytes.byte_at.Reads as byte-at-reads
 
 abbrev Inv-loop : tie.InvT-loop
-Inv-loop word out₀ at₀ i₀ out at i = ?
+Inv-loop word out₀ at₀ i₀ out at i = (i ≤ length out) × (length out ≡ length out₀) × (at ≤ length word)
 
 abbrev μ-loop : tie.MeasureT-loop
-μ-loop word out₀ at₀ i₀ out at i = ?
+μ-loop word out₀ at₀ i₀ out at i = length out₀ - i
 
--- src/bytes.rt:141:5
 loop-holds : tie.Need-loop-holds Inv-loop μ-loop
-loop-holds c = ?
+loop-holds c = search needs
 
--- src/bytes.rt:142:12
 sub-if1 : tie.Need-sub-if1 Inv-loop μ-loop
-sub-if1 c = ?
+sub-if1 c = search needs
 
--- src/bytes.rt:143:13
 same-length : tie.Need-same-length Inv-loop μ-loop
-same-length c = ?
+same-length c = search needs
 
--- src/bytes.rt:143:13
 returns : tie.Need-returns Inv-loop μ-loop
-returns c = ?
+returns c = search needs
 
--- src/bytes.rt:145:18
 byte-at-requires : tie.Need-byte-at-requires Inv-loop μ-loop
-byte-at-requires c κs = ?
+byte-at-requires c κs = search needs
 
--- src/bytes.rt:145:9
 slice-write-out : tie.Need-slice-write-out Inv-loop μ-loop
-slice-write-out c = ?
+slice-write-out c = search needs
 
--- src/bytes.rt:146:9
 add-at : tie.Need-add-at Inv-loop μ-loop
-add-at c = ?
+add-at c = search needs
 
--- src/bytes.rt:147:9
 add-i : tie.Need-add-i Inv-loop μ-loop
-add-i c = ?
+add-i c = search needs
 
--- src/bytes.rt:141:5
 loop-less : tie.Need-loop-less Inv-loop μ-loop
-loop-less c = ?
+loop-less c = search needs
 
--- src/bytes.rt:141:5
 loop-again : tie.Need-loop-again Inv-loop μ-loop
-loop-again c = ?
+loop-again c = (simp length-set (omega arith), simp length-set (omega arith), omega arith)
 
--- src/bytes.rt:138:1
 same-length-2 : tie.Need-same-length-2 Inv-loop μ-loop
-same-length-2 c = ?
+same-length-2 c = search needs
 
--- src/bytes.rt:138:1
 returns-2 : tie.Need-returns-2 Inv-loop μ-loop
-returns-2 c = ?
+returns-2 c = search needs
 
 pub lay-pairs-spec : {M : Type 1} → statement M
 lay-pairs-spec =

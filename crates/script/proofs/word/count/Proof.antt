@@ -1,51 +1,47 @@
+-- `script::word::count` is safe and ends: there are at most as many words as bytes passed, and one more.
+use Prim.Native.Nat.{_+_, _-_, _≤_}
+use mathlib.Core.Logic.{⊎-elim}
 use native.Mathlib.Omega.{arith}
+use lib.ListN.{length}
 use borrow.Author.Needs.{needs}
 use Rattle.script.proofs.word.count.Statement.{statement}
 use Rattle.script.proofs.word.count.Tie as tie
-use Rattle.script.proofs.word.count.Reads as reads
-use Rattle.script.proofs.word.count.Lts as lts
 
 abbrev Inv-loop : tie.InvT-loop
-Inv-loop line words₀ empty₀ i₀ words empty i = ?
+Inv-loop line words₀ from₀ i₀ words from i = (i ≤ length line) × (words ≤ i + 1)
 
 abbrev μ-loop : tie.MeasureT-loop
-μ-loop line words₀ empty₀ i₀ words empty i = ?
+μ-loop line words₀ from₀ i₀ words from i = length line - i
 
--- src/word.rt:35:5
 loop-holds : tie.Need-loop-holds Inv-loop μ-loop
-loop-holds c = ?
+loop-holds c = search needs
 
--- src/word.rt:36:12
 shared-slice-read-if1 : tie.Need-shared-slice-read-if1 Inv-loop μ-loop
-shared-slice-read-if1 c = ?
+shared-slice-read-if1 c = search needs
 
--- src/word.rt:38:17
 returns : tie.Need-returns Inv-loop μ-loop
-returns c = ?
+returns c = search needs
 
--- src/word.rt:40:13
 add-words : tie.Need-add-words Inv-loop μ-loop
-add-words c = ?
+add-words c = search needs
 
--- src/word.rt:45:9
+add-from : tie.Need-add-from Inv-loop μ-loop
+add-from c = search needs
+
 add-i : tie.Need-add-i Inv-loop μ-loop
-add-i c = ?
+add-i c = search needs
 
--- src/word.rt:35:5
 loop-less : tie.Need-loop-less Inv-loop μ-loop
-loop-less c = ?
+loop-less c = search needs
 
--- src/word.rt:35:5
 loop-again : tie.Need-loop-again Inv-loop μ-loop
-loop-again c = ?
+loop-again c = ⊎-elim (λ w. omega arith) (λ w. omega arith) (c .if1 .came)
 
--- src/word.rt:31:1
 returns-2 : tie.Need-returns-2 Inv-loop μ-loop
-returns-2 c = ?
+returns-2 c = search needs
 
--- src/word.rt:31:1
 returns-3 : tie.Need-returns-3 Inv-loop μ-loop
-returns-3 c = ?
+returns-3 c = search needs
 
 pub count-spec : {M : Type 1} → statement M
 count-spec =
@@ -57,6 +53,7 @@ count-spec =
     shared-slice-read-if1
     returns
     add-words
+    add-from
     add-i
     loop-less
     loop-again

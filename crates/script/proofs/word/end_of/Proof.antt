@@ -1,43 +1,36 @@
-use native.Mathlib.Omega.{arith}
+-- `script::word::end_of` meets its contract: i runs from the word's start to the line's end.
+use Prim.Native.Nat.{_-_, _≤_}
+use lib.ListN.{length}
 use borrow.Author.Needs.{needs}
 use Rattle.script.proofs.word.end_of.Statement.{statement}
 use Rattle.script.proofs.word.end_of.Tie as tie
-use Rattle.script.proofs.word.end_of.Reads as reads
-use Rattle.script.proofs.word.end_of.Lts as lts
 
 abbrev Inv-loop : tie.InvT-loop
-Inv-loop line from i₀ i = ?
+Inv-loop line from i₀ i = (from ≤ i) × (i ≤ length line)
 
 abbrev μ-loop : tie.MeasureT-loop
-μ-loop line from i₀ i = ?
+μ-loop line from i₀ i = length line - i
 
--- src/word.rt:56:5
 loop-holds : tie.Need-loop-holds Inv-loop μ-loop
-loop-holds c = ?
+loop-holds c = search needs
 
--- src/word.rt:57:12
 shared-slice-read-if1 : tie.Need-shared-slice-read-if1 Inv-loop μ-loop
-shared-slice-read-if1 c = ?
+shared-slice-read-if1 c = search needs
 
--- src/word.rt:58:13
 returns : tie.Need-returns Inv-loop μ-loop
-returns c = ?
+returns c = search needs
 
--- src/word.rt:60:9
 add-i : tie.Need-add-i Inv-loop μ-loop
-add-i c = ?
+add-i c = search needs
 
--- src/word.rt:56:5
 loop-less : tie.Need-loop-less Inv-loop μ-loop
-loop-less c = ?
+loop-less c = search needs
 
--- src/word.rt:56:5
 loop-again : tie.Need-loop-again Inv-loop μ-loop
-loop-again c = ?
+loop-again c = search needs
 
--- src/word.rt:51:1
 returns-2 : tie.Need-returns-2 Inv-loop μ-loop
-returns-2 c = ?
+returns-2 c = search needs
 
 pub end-of-spec : {M : Type 1} → statement M
 end-of-spec =

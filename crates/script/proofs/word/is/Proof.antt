@@ -1,51 +1,42 @@
-use native.Mathlib.Omega.{arith}
+-- `script::word::is` is safe and ends: i stays within the word, and the text is as long.
+use Prim.Native.Nat.{_-_, _≤_}
+use lib.ListN.{length}
 use borrow.Author.Needs.{needs}
 use Rattle.script.proofs.word.is.Statement.{statement}
 use Rattle.script.proofs.word.is.Tie as tie
-use Rattle.script.proofs.word.is.Reads as reads
-use Rattle.script.proofs.word.is.Lts as lts
 
 abbrev Inv-loop : tie.InvT-loop
-Inv-loop word text i₀ i = ?
+Inv-loop word text i₀ i = i ≤ length word
 
 abbrev μ-loop : tie.MeasureT-loop
-μ-loop word text i₀ i = ?
+μ-loop word text i₀ i = length word - i
 
--- src/word.rt:84:9
 returns : tie.Need-returns Inv-loop μ-loop
-returns c = ?
+returns c = search needs
 
--- src/word.rt:87:5
 loop-holds : tie.Need-loop-holds Inv-loop μ-loop
-loop-holds c = ?
+loop-holds c = search needs
 
--- src/word.rt:88:12
 shared-slice-read-if2 : tie.Need-shared-slice-read-if2 Inv-loop μ-loop
-shared-slice-read-if2 c = ?
+shared-slice-read-if2 c = search needs
 
--- src/word.rt:88:23
 shared-slice-read-if2-2 : tie.Need-shared-slice-read-if2-2 Inv-loop μ-loop
-shared-slice-read-if2-2 c = ?
+shared-slice-read-if2-2 c = search needs
 
--- src/word.rt:89:13
 returns-2 : tie.Need-returns-2 Inv-loop μ-loop
-returns-2 c = ?
+returns-2 c = search needs
 
--- src/word.rt:91:9
 add-i : tie.Need-add-i Inv-loop μ-loop
-add-i c = ?
+add-i c = search needs
 
--- src/word.rt:87:5
 loop-less : tie.Need-loop-less Inv-loop μ-loop
-loop-less c = ?
+loop-less c = search needs
 
--- src/word.rt:87:5
 loop-again : tie.Need-loop-again Inv-loop μ-loop
-loop-again c = ?
+loop-again c = search needs
 
--- src/word.rt:82:1
 returns-3 : tie.Need-returns-3 Inv-loop μ-loop
-returns-3 c = ?
+returns-3 c = search needs
 
 pub is-spec : {M : Type 1} → statement M
 is-spec =

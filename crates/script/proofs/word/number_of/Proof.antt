@@ -1,68 +1,54 @@
-use native.Mathlib.Omega.{arith}
+-- `script::word::number_of` meets its contract: the value so far keeps the limit.
+use Prim.Native.Nat.{_-_, _≤_}
+use lib.ListN.{length}
 use borrow.Author.Needs.{needs}
 use Rattle.script.proofs.word.number_of.Statement.{statement}
 use Rattle.script.proofs.word.number_of.Tie as tie
-use Rattle.script.proofs.word.number_of.Reads as reads
-use Rattle.script.proofs.word.number_of.Lts as lts
-use Rattle.script.proofs.word.digit.Reads as digit-reads
 
 abbrev Inv-loop : tie.InvT-loop
-Inv-loop word most value₀ i₀ value i = ?
+Inv-loop word most value₀ i₀ value i = (i ≤ length word) × (value ≤ most)
 
 abbrev μ-loop : tie.MeasureT-loop
-μ-loop word most value₀ i₀ value i = ?
+μ-loop word most value₀ i₀ value i = length word - i
 
--- src/word.rt:114:9
 returns : tie.Need-returns Inv-loop μ-loop
-returns c = ?
+returns c = search needs
 
--- src/word.rt:118:5
 loop-holds : tie.Need-loop-holds Inv-loop μ-loop
-loop-holds c = ?
+loop-holds c = search needs
 
--- src/word.rt:119:26
 shared-slice-read-digit : tie.Need-shared-slice-read-digit Inv-loop μ-loop
-shared-slice-read-digit c = ?
+shared-slice-read-digit c = search needs
 
--- src/word.rt:119:13
 digit-requires : tie.Need-digit-requires Inv-loop μ-loop
-digit-requires c κs = ?
+digit-requires c κs = search needs
 
--- src/word.rt:121:13
 returns-2 : tie.Need-returns-2 Inv-loop μ-loop
-returns-2 c = ?
+returns-2 c = search needs
 
--- src/word.rt:124:13
 returns-3 : tie.Need-returns-3 Inv-loop μ-loop
-returns-3 c = ?
+returns-3 c = search needs
 
--- src/word.rt:127:13
 returns-4 : tie.Need-returns-4 Inv-loop μ-loop
-returns-4 c = ?
+returns-4 c = search needs
 
--- src/word.rt:129:17
 mul-value : tie.Need-mul-value Inv-loop μ-loop
-mul-value c = ?
+mul-value c = search needs
 
--- src/word.rt:129:17
 add-value : tie.Need-add-value Inv-loop μ-loop
-add-value c = ?
+add-value c = search needs
 
--- src/word.rt:130:9
 add-i : tie.Need-add-i Inv-loop μ-loop
-add-i c = ?
+add-i c = search needs
 
--- src/word.rt:118:5
 loop-less : tie.Need-loop-less Inv-loop μ-loop
-loop-less c = ?
+loop-less c = search needs
 
--- src/word.rt:118:5
 loop-again : tie.Need-loop-again Inv-loop μ-loop
-loop-again c = ?
+loop-again c = search needs
 
--- src/word.rt:110:1
 returns-5 : tie.Need-returns-5 Inv-loop μ-loop
-returns-5 c = ?
+returns-5 c = search needs
 
 pub number-of-spec : {M : Type 1} → statement M
 number-of-spec =
