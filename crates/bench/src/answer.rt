@@ -19,7 +19,7 @@ pub struct Answered {
     pub answer: Answer,
 }
 
-pub fn answered(state: State, answer: Answer) -> Answered {
+pub fn reply(state: State, answer: Answer) -> Answered {
     Answered { state, answer }
 }
 

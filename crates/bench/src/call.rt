@@ -50,8 +50,8 @@ fn numbered(out: NumberedOut) -> Answered {
     let state = out.state;
     let said = out.answer;
     match said {
-        Numbered::Number(number) => answer::answered(state, Answer::Number(number)),
-        Numbered::Refused(why) => answer::answered(state, Answer::Refused(why)),
+        Numbered::Number(number) => answer::reply(state, Answer::Number(number)),
+        Numbered::Refused(why) => answer::reply(state, Answer::Refused(why)),
     }
 }
 
@@ -59,8 +59,8 @@ fn acknowledged(out: AckOut) -> Answered {
     let state = out.state;
     let said = out.answer;
     match said {
-        Ack::Done => answer::answered(state, Answer::Done),
-        Ack::Refused(why) => answer::answered(state, Answer::Refused(why)),
+        Ack::Done => answer::reply(state, Answer::Done),
+        Ack::Refused(why) => answer::reply(state, Answer::Refused(why)),
     }
 }
 
@@ -69,10 +69,10 @@ fn begun(out: FlushOut) -> Answered {
     let said = out.answer;
     match said {
         Flush::Begun(started) => {
-            answer::answered(state, Answer::Pair(started.number, started.length as u64))
+            answer::reply(state, Answer::Pair(started.number, started.length as u64))
         }
-        Flush::Nothing => answer::answered(state, Answer::Nothing),
-        Flush::Refused(why) => answer::answered(state, Answer::Refused(why)),
+        Flush::Nothing => answer::reply(state, Answer::Nothing),
+        Flush::Refused(why) => answer::reply(state, Answer::Refused(why)),
     }
 }
 
@@ -123,7 +123,7 @@ fn write(
     data: &mut [u8],
 ) -> Answered {
     if data.len() < count {
-        return answer::answered(s, Answer::Not);
+        return answer::reply(s, Answer::Not);
     }
     bytes::lay(word, &mut data[0..count]);
     numbered(calls::write(ring, s, node, handle, offset, &data[0..count]))
@@ -189,7 +189,7 @@ pub fn make_call(
             length: _,
             fetched,
             count,
-        } => answer::answered(
+        } => answer::reply(
             s,
             fill_read(
                 ring,
@@ -203,13 +203,13 @@ pub fn make_call(
                 buffer,
             ),
         ),
-        Call::End { node } => answer::answered(s, ended(calls::cached_end(ring, s, node))),
+        Call::End { node } => answer::reply(s, ended(calls::cached_end(ring, s, node))),
         Call::Flush { node, length: _ } => start_flush(ring, s, node, buffer),
         Call::Report { number, good } => acknowledged(calls::report(ring, s, number, good)),
         Call::Ticket => numbered(calls::take_ticket(ring, s)),
         Call::Ask { number, node } => {
-            answer::answered(s, asked(calls::ask_ticket(ring, s, number, node)))
+            answer::reply(s, asked(calls::ask_ticket(ring, s, number, node)))
         }
-        Call::Turn => answer::answered(s, turned(calls::whose_turn(ring, s))),
+        Call::Turn => answer::reply(s, turned(calls::whose_turn(ring, s))),
     }
 }

@@ -19,7 +19,7 @@ pub fn poke(ring: &mut [u8], place: usize, byte: u8) -> Answer {
 
 fn set_number(s: State, place: usize, value: u64) -> Answered {
     if Ring::ENTRIES <= place {
-        return answer::answered(s, Answer::Not);
+        return answer::reply(s, Answer::Not);
     }
     let one = s.writes[place];
     let mut t = s;
@@ -27,12 +27,12 @@ fn set_number(s: State, place: usize, value: u64) -> Answered {
         number: value,
         phase: one.phase,
     };
-    answer::answered(t, Answer::Done)
+    answer::reply(t, Answer::Done)
 }
 
 fn set_phase(s: State, place: usize, value: u8) -> Answered {
     if Ring::ENTRIES <= place {
-        return answer::answered(s, Answer::Not);
+        return answer::reply(s, Answer::Not);
     }
     let one = s.writes[place];
     let mut t = s;
@@ -40,34 +40,34 @@ fn set_phase(s: State, place: usize, value: u8) -> Answered {
         number: one.number,
         phase: value,
     };
-    answer::answered(t, Answer::Done)
+    answer::reply(t, Answer::Done)
 }
 
 fn set_pin(s: State, place: usize, pin: Pin) -> Answered {
     if PINS <= place {
-        return answer::answered(s, Answer::Not);
+        return answer::reply(s, Answer::Not);
     }
     let mut t = s;
     t.pins[place] = pin;
-    answer::answered(t, Answer::Done)
+    answer::reply(t, Answer::Done)
 }
 
 fn set_next(s: State, value: u64) -> Answered {
     let mut t = s;
     t.next = value;
-    answer::answered(t, Answer::Done)
+    answer::reply(t, Answer::Done)
 }
 
 fn set_flush(s: State, value: u64) -> Answered {
     let mut t = s;
     t.flush = value;
-    answer::answered(t, Answer::Done)
+    answer::reply(t, Answer::Done)
 }
 
 fn set_count(s: State, value: usize) -> Answered {
     let mut t = s;
     t.count = value;
-    answer::answered(t, Answer::Done)
+    answer::reply(t, Answer::Done)
 }
 
 pub fn set(setting: Setting, s: State) -> Answered {

@@ -45,10 +45,11 @@ fn say_listed(out: &mut [u8], at: usize, writes: [Listed; Ring::ENTRIES], count:
     let mut to = output::say(out, at, b" w");
     let mut i = 0;
     while i < Ring::ENTRIES {
-        if i < count {
-            let one = writes[i];
-            to = say_one(out, to, one);
+        if count <= i {
+            return to;
         }
+        let one = writes[i];
+        to = say_one(out, to, one);
         i += 1;
     }
     to

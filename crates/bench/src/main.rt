@@ -70,7 +70,7 @@ fn after(bench: Bench, number: u64, said: Answered, out: &mut [u8]) -> Bench {
 
 fn refuse(bench: Bench, number: u64, out: &mut [u8]) -> Bench {
     let state = bench.state;
-    after(bench, number, answer::answered(state, Answer::Not), out)
+    after(bench, number, answer::reply(state, Answer::Not), out)
 }
 
 fn run_call(
@@ -144,7 +144,7 @@ fn run_poke(
     }
     let answer = damage::poke(&mut store[0..n], place, byte);
     let state = bench.state;
-    after(bench, number, answer::answered(state, answer), out)
+    after(bench, number, answer::reply(state, answer), out)
 }
 
 // Does what a line asks for, and says what comes of it.

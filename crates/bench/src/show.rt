@@ -62,11 +62,12 @@ fn legend_of(held: [Held; Ring::ENTRIES], count: usize) -> Legend {
     let mut legend = no_nodes();
     let mut i = 0;
     while i < Ring::ENTRIES {
-        if i < count {
-            let one = held[i];
-            let entry = one.entry;
-            legend = with_node(legend, entry.node);
+        if count <= i {
+            return legend;
         }
+        let one = held[i];
+        let entry = one.entry;
+        legend = with_node(legend, entry.node);
         i += 1;
     }
     legend
@@ -102,68 +103,96 @@ fn sign_of(phase: u8) -> u8 {
 
 // ---- cells
 
-// Marks the slots that a held write takes. A cell is two bytes.
-fn mark_one(cells: &mut [u8], n: usize, held: Held, letter: u8) {
+// The slot behind a slot.
+fn next_slot(slot: usize, n: usize) -> usize {
+    if slot < n {
+        if slot + 1 < n {
+            return slot + 1;
+        }
+    }
+    0
+}
+
+// A cell is a letter and a sign.
+fn mark(letters: &mut [u8], signs: &mut [u8], slot: usize, letter: u8, sign: u8) {
+    if letters.len() <= slot {
+        return;
+    }
+    if signs.len() <= slot {
+        return;
+    }
+    letters[slot] = letter;
+    signs[slot] = sign;
+}
+
+// Marks the slots that a held write takes.
+fn mark_one(letters: &mut [u8], signs: &mut [u8], n: usize, held: Held, letter: u8) {
     let entry = held.entry;
     let sign = sign_of(held.phase);
     let slots = Ring::slots(entry.length);
-    let first = entry.slot as usize;
+    let mut slot = entry.slot as usize;
     let mut k = 0;
     while k < slots {
-        let at = (first + k) % n * 2;
-        if at + 1 < cells.len() {
-            cells[at] = letter;
-            cells[at + 1] = sign;
-        }
+        mark(letters, signs, slot, letter, sign);
+        slot = next_slot(slot, n);
         k += 1;
     }
 }
 
-fn mark_all(cells: &mut [u8], n: usize, held: [Held; Ring::ENTRIES], count: usize, legend: Legend) {
+fn mark_all(
+    letters: &mut [u8],
+    signs: &mut [u8],
+    n: usize,
+    held: [Held; Ring::ENTRIES],
+    count: usize,
+    legend: Legend,
+) {
     let mut i = 0;
     while i < Ring::ENTRIES {
-        if i < count {
-            let one = held[i];
-            let entry = one.entry;
-            mark_one(cells, n, one, letter_of(legend, entry.node));
+        if count <= i {
+            return;
         }
+        let one = held[i];
+        let entry = one.entry;
+        mark_one(letters, signs, n, one, letter_of(legend, entry.node));
         i += 1;
     }
 }
 
-// A line's start: the place of its first slot, in three columns.
-fn say_place(out: &mut [u8], at: usize, place: usize) -> usize {
-    if place < 10 {
-        return output::say_number(out, at, b"    ", place as u64);
+// At each sixteenth slot a line begins, with the slot's place in three columns.
+fn say_place(out: &mut [u8], at: usize, slot: usize) -> usize {
+    if slot % 16 != 0 {
+        return at;
     }
-    if place < 100 {
-        return output::say_number(out, at, b"   ", place as u64);
+    if slot == 0 {
+        return output::say_number(out, at, b"    ", 0);
     }
-    output::say_number(out, at, b"  ", place as u64)
+    if slot < 100 {
+        return output::say_number(out, at, b"\n   ", slot as u64);
+    }
+    output::say_number(out, at, b"\n  ", slot as u64)
 }
 
 fn say_cell(out: &mut [u8], at: usize, slot: usize, letter: u8, sign: u8) -> usize {
-    let mut to = at;
-    if slot % 16 == 0 {
-        to = say_place(out, at, slot);
-    }
     let text = [b' ', letter, sign];
-    output::say(out, to, &text)
+    let at = say_place(out, at, slot);
+    output::say(out, at, &text)
 }
 
-fn say_cells(out: &mut [u8], at: usize, cells: &[u8], n: usize) -> usize {
+fn say_cells(out: &mut [u8], at: usize, letters: &[u8], signs: &[u8], n: usize) -> usize {
     let mut to = at;
     let mut slot = 0;
     while slot < n {
-        if slot * 2 + 1 < cells.len() {
-            to = say_cell(out, to, slot, cells[slot * 2], cells[slot * 2 + 1]);
+        if letters.len() <= slot {
+            return to;
         }
-        if slot % 16 == 15 || slot + 1 == n {
-            to = output::say(out, to, b"\n");
+        if signs.len() <= slot {
+            return to;
         }
+        to = say_cell(out, to, slot, letters[slot], signs[slot]);
         slot += 1;
     }
-    to
+    output::say(out, to, b"\n")
 }
 
 // ---- the lines around the cells
@@ -192,9 +221,10 @@ fn say_legend(out: &mut [u8], at: usize, legend: Legend) -> usize {
     let mut to = at;
     let mut i = 0;
     while i < LETTERS {
-        if i < legend.count {
-            to = say_node(out, to, i, legend.nodes[i]);
+        if legend.count <= i {
+            return to;
         }
+        to = say_node(out, to, i, legend.nodes[i]);
         i += 1;
     }
     to
@@ -233,9 +263,10 @@ fn say_slots(
     count: usize,
     legend: Legend,
 ) -> usize {
-    let mut cells = [b'.'; 512];
-    mark_all(&mut cells, n, held, count, legend);
-    say_cells(out, at, &cells, n)
+    let mut letters = [b'.'; Ring::MOST];
+    let mut signs = [b'.'; Ring::MOST];
+    mark_all(&mut letters, &mut signs, n, held, count, legend);
+    say_cells(out, at, &letters, &signs, n)
 }
 
 fn say_picture(
