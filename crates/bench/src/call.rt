@@ -120,13 +120,13 @@ fn write(
     offset: u32,
     count: usize,
     word: &[u8],
-    data: &mut [u8],
+    src: &mut [u8],
 ) -> Answered {
-    if data.len() < count {
+    if src.len() < count {
         return answer::reply(s, Answer::Not);
     }
-    bytes::lay(word, &mut data[0..count]);
-    numbered(calls::write(ring, s, node, handle, offset, &data[0..count]))
+    bytes::lay(word, &mut src[0..count]);
+    numbered(calls::write(ring, s, node, handle, offset, &src[0..count]))
 }
 
 fn fill_read(
@@ -159,7 +159,7 @@ pub fn make_call(
     line: &[u8],
     ring: &mut [u8],
     buffer: &mut [u8],
-    data: &mut [u8],
+    src: &mut [u8],
     s: State,
 ) -> Answered {
     match call {
@@ -178,7 +178,7 @@ pub fn make_call(
             offset,
             count,
             word::nth(line, 4),
-            data,
+            src,
         ),
         Call::Pin { node } => numbered(calls::pin(ring, s, node)),
         Call::Unpin { number } => acknowledged(calls::unpin(ring, s, number)),

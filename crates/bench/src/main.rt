@@ -79,7 +79,7 @@ fn run_call(
     number: u64,
     store: &mut [u8],
     lent: &mut [u8],
-    data: &mut [u8],
+    src: &mut [u8],
     out: &mut [u8],
     bench: Bench,
 ) -> Bench {
@@ -92,7 +92,7 @@ fn run_call(
         return refuse(bench, number, out);
     }
     let state = bench.state;
-    let said = call::make_call(call, line, &mut store[0..n], &mut lent[0..m], data, state);
+    let said = call::make_call(call, line, &mut store[0..n], &mut lent[0..m], src, state);
     let mut longer = bench;
     longer.ring = n;
     longer.buffer = m;
@@ -153,7 +153,7 @@ fn run(
     number: u64,
     store: &mut [u8],
     lent: &mut [u8],
-    data: &mut [u8],
+    src: &mut [u8],
     out: &mut [u8],
     bench: Bench,
 ) -> Bench {
@@ -163,7 +163,7 @@ fn run(
     let command = command::command_of(line);
     let state = bench.state;
     match command {
-        Command::Call(call) => run_call(call, line, number, store, lent, data, out, bench),
+        Command::Call(call) => run_call(call, line, number, store, lent, src, out, bench),
         Command::Look(look) => run_look(look, number, store, lent, out, bench),
         Command::Poke { place, byte } => run_poke(place, byte, number, store, out, bench),
         Command::Set(setting) => after(bench, number, damage::set(setting, state), out),
@@ -186,14 +186,14 @@ fn end_line(
     number: u64,
     store: &mut [u8],
     lent: &mut [u8],
-    data: &mut [u8],
+    src: &mut [u8],
     out: &mut [u8],
     bench: Bench,
 ) -> Bench {
     if room.len() < length {
         return too_long(bench, number, out);
     }
-    run(&room[0..length], number, store, lent, data, out, bench)
+    run(&room[0..length], number, store, lent, src, out, bench)
 }
 
 // How far the reading of lines came.
@@ -202,6 +202,8 @@ struct Reading {
     length: usize,
     // Its number.
     number: u64,
+    // Whether the input ended.
+    ended: bool,
     bench: Bench,
 }
 
@@ -211,29 +213,50 @@ fn feed(
     room: &mut [u8],
     store: &mut [u8],
     lent: &mut [u8],
-    data: &mut [u8],
+    src: &mut [u8],
     out: &mut [u8],
     reading: Reading,
 ) -> Reading {
     let mut bench = reading.bench;
     let mut number = reading.number;
-    let mut length = reading.length;
+    let mut filled = reading.length;
     let mut i = 0;
     while i < chunk.len() {
-        let taken = line::take(chunk, i, room, length);
+        let taken = line::take(chunk, i, room, filled);
         i = taken.next;
-        length = taken.length;
+        filled = taken.length;
         if taken.ended {
-            bench = end_line(length, room, number, store, lent, data, out, bench);
+            bench = end_line(filled, room, number, store, lent, src, out, bench);
             number = std::num::wrapping_add_u64(number, 1);
-            length = 0;
+            filled = 0;
         }
     }
     Reading {
-        length,
+        length: filled,
         number,
+        ended: false,
         bench,
     }
+}
+
+// Reads once, and runs the lines that end in what came.
+fn read_some(
+    chunk: &mut [u8],
+    room: &mut [u8],
+    store: &mut [u8],
+    lent: &mut [u8],
+    src: &mut [u8],
+    out: &mut [u8],
+    reading: Reading,
+) -> Reading {
+    let got = libc::read(STDIN_FILENO, chunk);
+    let n = io::count(got, chunk);
+    if n == 0 {
+        let mut last = reading;
+        last.ended = true;
+        return last;
+    }
+    feed(&chunk[0..n], room, store, lent, src, out, reading)
 }
 
 // Reads to the input's end. A proved loop has to end, and nothing says that an input does: the turns count down from a number
@@ -243,33 +266,49 @@ fn read_all(
     room: &mut [u8],
     store: &mut [u8],
     lent: &mut [u8],
-    data: &mut [u8],
+    src: &mut [u8],
     out: &mut [u8],
     start: Reading,
 ) -> Reading {
     let mut reading = start;
     let mut turns = u64::MAX;
     while 0 < turns {
-        let got = libc::read(STDIN_FILENO, chunk);
-        let n = io::count(got, chunk);
-        if n == 0 {
+        reading = read_some(chunk, room, store, lent, src, out, reading);
+        if reading.ended {
             return reading;
         }
-        reading = feed(&chunk[0..n], room, store, lent, data, out, reading);
         turns -= 1;
     }
     reading
 }
 
-// Plays a script from the first line to the last, which may lack its end.
-fn play(
-    chunk: &mut [u8],
-    room: &mut [u8],
+// Runs the last line if it lacks its end, and answers how many bytes wait to be written.
+fn finish(
+    room: &[u8],
     store: &mut [u8],
     lent: &mut [u8],
-    data: &mut [u8],
+    src: &mut [u8],
     out: &mut [u8],
-) {
+    reading: Reading,
+) -> usize {
+    let bench = reading.bench;
+    if reading.length == 0 {
+        return bench.waiting;
+    }
+    let last = end_line(
+        reading.length,
+        room,
+        reading.number,
+        store,
+        lent,
+        src,
+        out,
+        bench,
+    );
+    last.waiting
+}
+
+fn begin() -> Reading {
     let state = no_state();
     let bench = Bench {
         ring: 0,
@@ -277,26 +316,26 @@ fn play(
         waiting: 0,
         state,
     };
-    let start = Reading {
+    Reading {
         length: 0,
         number: 1,
+        ended: false,
         bench,
-    };
-    let reading = read_all(chunk, room, store, lent, data, out, start);
-    let mut last = reading.bench;
-    if 0 < reading.length {
-        last = end_line(
-            reading.length,
-            room,
-            reading.number,
-            store,
-            lent,
-            data,
-            out,
-            last,
-        );
     }
-    output::send(out, last.waiting);
+}
+
+// Plays a script from the first line to the last.
+fn play(
+    chunk: &mut [u8],
+    room: &mut [u8],
+    store: &mut [u8],
+    lent: &mut [u8],
+    src: &mut [u8],
+    out: &mut [u8],
+) {
+    let reading = read_all(chunk, room, store, lent, src, out, begin());
+    let waiting = finish(room, store, lent, src, out, reading);
+    output::send(out, waiting);
 }
 
 fn main() {
@@ -304,14 +343,14 @@ fn main() {
     let mut room = [0u8; LONGEST_LINE];
     let mut store = [0u8; LONGEST];
     let mut lent = [0u8; LONGEST];
-    let mut data = [0u8; LONGEST];
+    let mut src = [0u8; LONGEST];
     let mut out = [0u8; 65536];
     play(
         &mut chunk,
         &mut room,
         &mut store,
         &mut lent,
-        &mut data,
+        &mut src,
         &mut out,
     );
 }

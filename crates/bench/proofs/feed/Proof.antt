@@ -1,76 +1,58 @@
-use native.Mathlib.Omega.{arith}
+-- `bench::feed` is safe and ends: i stays within the chunk, and every buffer keeps its length.
+use Prim.Native.Nat.{_-_, _≤_}
+use mathlib.Core.Path.{_≡_}
+use lib.ListN.{length}
 use borrow.Author.Needs.{needs}
 use Rattle.bench.proofs.feed.Statement.{statement}
 use Rattle.bench.proofs.feed.Tie as tie
-use Rattle.bench.proofs.feed.Reads as reads
-use Rattle.bench.proofs.feed.Lts as lts
-use Rattle.bench.proofs.end_line.Reads as end-line-reads
-use Rattle.script.proofs.line.take.Reads as take-reads
-use Rattle.std.proofs.num.wrapping_add_u64.Reads as wrapping-add-u64-reads
 
 abbrev Inv-loop : tie.InvT-loop
-Inv-loop chunk room₀ store₀ lent₀ data₀ out₀ bench₀ number₀ length₀ i₀ room store lent «data» out bench number length i =
-    ?
+Inv-loop chunk room₀ store₀ lent₀ src₀ out₀ bench₀ number₀ filled₀ i₀ room store lent src out bench number filled i = (i ≤ length chunk) × (length room ≡ length room₀) × (length store ≡ length store₀) × (length lent ≡ length lent₀) × (length src ≡ length src₀) × (length out ≡ length out₀)
 
 abbrev μ-loop : tie.MeasureT-loop
-μ-loop chunk room₀ store₀ lent₀ data₀ out₀ bench₀ number₀ length₀ i₀ room store lent «data» out bench number length i =
-    ?
+μ-loop chunk room₀ store₀ lent₀ src₀ out₀ bench₀ number₀ filled₀ i₀ room store lent src out bench number filled i = length chunk - i
 
--- src/main.rt:222:5
 loop-holds : tie.Need-loop-holds Inv-loop μ-loop
-loop-holds c = ?
+loop-holds c = search needs
 
--- src/main.rt:223:13
 take-requires : tie.Need-take-requires Inv-loop μ-loop
-take-requires c κs = ?
+take-requires c κs = search needs
 
--- src/main.rt:227:13
 end-line-requires : tie.Need-end-line-requires Inv-loop μ-loop
-end-line-requires c κs = ?
+end-line-requires c κs = search needs
 
--- src/main.rt:228:13
 wrapping-add-u64-requires : tie.Need-wrapping-add-u64-requires Inv-loop μ-loop
-wrapping-add-u64-requires c κs = ?
+wrapping-add-u64-requires c κs = search needs
 
--- src/main.rt:222:5
 loop-less : tie.Need-loop-less Inv-loop μ-loop
-loop-less c = ?
+loop-less c = search needs
 
--- src/main.rt:222:5
 loop-again : tie.Need-loop-again Inv-loop μ-loop
-loop-again c = ?
+loop-again c = search needs
 
--- src/main.rt:222:5
 loop-less-2 : tie.Need-loop-less-2 Inv-loop μ-loop
-loop-less-2 c = ?
+loop-less-2 c = search needs
 
--- src/main.rt:222:5
 loop-again-2 : tie.Need-loop-again-2 Inv-loop μ-loop
-loop-again-2 c = ?
+loop-again-2 c = search needs
 
--- src/main.rt:209:1
 same-length : tie.Need-same-length Inv-loop μ-loop
-same-length c = ?
+same-length c = search needs
 
--- src/main.rt:209:1
 same-length-2 : tie.Need-same-length-2 Inv-loop μ-loop
-same-length-2 c = ?
+same-length-2 c = search needs
 
--- src/main.rt:209:1
 same-length-3 : tie.Need-same-length-3 Inv-loop μ-loop
-same-length-3 c = ?
+same-length-3 c = search needs
 
--- src/main.rt:209:1
 same-length-4 : tie.Need-same-length-4 Inv-loop μ-loop
-same-length-4 c = ?
+same-length-4 c = search needs
 
--- src/main.rt:209:1
 same-length-5 : tie.Need-same-length-5 Inv-loop μ-loop
-same-length-5 c = ?
+same-length-5 c = search needs
 
--- src/main.rt:209:1
 returns : tie.Need-returns Inv-loop μ-loop
-returns c = ?
+returns c = search needs
 
 pub feed-spec : {M : Type 1} → statement M
 feed-spec =
