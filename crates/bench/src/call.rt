@@ -17,6 +17,9 @@ use script::command::Call;
 use script::word;
 use state::State;
 
+// The longest ring and buffer, and the most bytes of a command.
+pub const LONGEST: usize = 140000;
+
 // What a fresh ring or buffer holds.
 const BLANK: u8 = 0xAA;
 
@@ -112,7 +115,8 @@ fn make(ring: &mut [u8], s: State) -> Answered {
     acknowledged(calls::make(ring, s))
 }
 
-fn write(
+// A write of so many bytes, which a word spells; they are laid in a slice first.
+fn write_from(
     ring: &mut [u8],
     s: State,
     node: u32,
@@ -127,6 +131,19 @@ fn write(
     }
     bytes::lay(word, &mut src[0..count]);
     numbered(calls::write(ring, s, node, handle, offset, &src[0..count]))
+}
+
+fn write(
+    ring: &mut [u8],
+    s: State,
+    node: u32,
+    handle: u32,
+    offset: u32,
+    count: usize,
+    word: &[u8],
+) -> Answered {
+    let mut src = [0u8; LONGEST];
+    write_from(ring, s, node, handle, offset, count, word, &mut src)
 }
 
 fn fill_read(
@@ -159,7 +176,6 @@ pub fn make_call(
     line: &[u8],
     ring: &mut [u8],
     buffer: &mut [u8],
-    src: &mut [u8],
     s: State,
 ) -> Answered {
     match call {
@@ -170,16 +186,7 @@ pub fn make_call(
             handle,
             offset,
             count,
-        } => write(
-            ring,
-            s,
-            node,
-            handle,
-            offset,
-            count,
-            word::nth(line, 4),
-            src,
-        ),
+        } => write(ring, s, node, handle, offset, count, word::nth(line, 4)),
         Call::Pin { node } => numbered(calls::pin(ring, s, node)),
         Call::Unpin { number } => acknowledged(calls::unpin(ring, s, number)),
         Call::Fill {

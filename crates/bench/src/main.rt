@@ -9,6 +9,7 @@ mod show;
 
 use answer::Answer;
 use answer::Answered;
+use call::LONGEST;
 use layout::Ring;
 use libc::STDIN_FILENO;
 use script::command;
@@ -20,9 +21,6 @@ use state::Listed;
 use state::PINS;
 use state::Pin;
 use state::State;
-
-// The longest ring and buffer, and the longest line.
-const LONGEST: usize = 140000;
 
 const LONGEST_LINE: usize = 300000;
 
@@ -79,7 +77,6 @@ fn run_call(
     number: u64,
     store: &mut [u8],
     lent: &mut [u8],
-    src: &mut [u8],
     out: &mut [u8],
     bench: Bench,
 ) -> Bench {
@@ -92,7 +89,7 @@ fn run_call(
         return refuse(bench, number, out);
     }
     let state = bench.state;
-    let said = call::make_call(call, line, &mut store[0..n], &mut lent[0..m], src, state);
+    let said = call::make_call(call, line, &mut store[0..n], &mut lent[0..m], state);
     let mut longer = bench;
     longer.ring = n;
     longer.buffer = m;
@@ -153,7 +150,6 @@ fn run(
     number: u64,
     store: &mut [u8],
     lent: &mut [u8],
-    src: &mut [u8],
     out: &mut [u8],
     bench: Bench,
 ) -> Bench {
@@ -163,7 +159,7 @@ fn run(
     let command = command::command_of(line);
     let state = bench.state;
     match command {
-        Command::Call(call) => run_call(call, line, number, store, lent, src, out, bench),
+        Command::Call(call) => run_call(call, line, number, store, lent, out, bench),
         Command::Look(look) => run_look(look, number, store, lent, out, bench),
         Command::Poke { place, byte } => run_poke(place, byte, number, store, out, bench),
         Command::Set(setting) => after(bench, number, damage::set(setting, state), out),
@@ -186,14 +182,13 @@ fn end_line(
     number: u64,
     store: &mut [u8],
     lent: &mut [u8],
-    src: &mut [u8],
     out: &mut [u8],
     bench: Bench,
 ) -> Bench {
     if room.len() < length {
         return too_long(bench, number, out);
     }
-    run(&room[0..length], number, store, lent, src, out, bench)
+    run(&room[0..length], number, store, lent, out, bench)
 }
 
 // How far the reading of lines came.
@@ -213,7 +208,6 @@ fn feed(
     room: &mut [u8],
     store: &mut [u8],
     lent: &mut [u8],
-    src: &mut [u8],
     out: &mut [u8],
     reading: Reading,
 ) -> Reading {
@@ -226,7 +220,7 @@ fn feed(
         i = taken.next;
         filled = taken.length;
         if taken.ended {
-            bench = end_line(filled, room, number, store, lent, src, out, bench);
+            bench = end_line(filled, room, number, store, lent, out, bench);
             number = std::num::wrapping_add_u64(number, 1);
             filled = 0;
         }
@@ -239,73 +233,69 @@ fn feed(
     }
 }
 
-// Reads once, and runs the lines that end in what came.
-fn read_some(
-    chunk: &mut [u8],
-    room: &mut [u8],
+// Runs the last line, if it lacks its end.
+fn finish(
+    room: &[u8],
     store: &mut [u8],
     lent: &mut [u8],
-    src: &mut [u8],
     out: &mut [u8],
     reading: Reading,
 ) -> Reading {
-    let got = libc::read(STDIN_FILENO, chunk);
-    let n = io::count(got, chunk);
-    if n == 0 {
-        let mut last = reading;
-        last.ended = true;
+    let mut last = reading;
+    last.ended = true;
+    if reading.length == 0 {
         return last;
     }
-    feed(&chunk[0..n], room, store, lent, src, out, reading)
+    let bench = reading.bench;
+    let after = end_line(
+        reading.length,
+        room,
+        reading.number,
+        store,
+        lent,
+        out,
+        bench,
+    );
+    last.bench = after;
+    last
+}
+
+// Reads once, and runs the lines that end in what came. At the input's end a last line may lack its own.
+fn read_some(
+    room: &mut [u8],
+    store: &mut [u8],
+    lent: &mut [u8],
+    out: &mut [u8],
+    reading: Reading,
+) -> Reading {
+    let mut chunk = io::large_buffer();
+    let got = libc::read(STDIN_FILENO, &mut chunk);
+    let n = io::count(got, &chunk);
+    if n == 0 {
+        return finish(room, store, lent, out, reading);
+    }
+    feed(&chunk[..n], room, store, lent, out, reading)
 }
 
 // Reads to the input's end. A proved loop has to end, and nothing says that an input does: the turns count down from a number
 // that no run uses up.
 fn read_all(
-    chunk: &mut [u8],
     room: &mut [u8],
     store: &mut [u8],
     lent: &mut [u8],
-    src: &mut [u8],
     out: &mut [u8],
     start: Reading,
 ) -> Reading {
     let mut reading = start;
     let mut turns = u64::MAX;
     while 0 < turns {
-        reading = read_some(chunk, room, store, lent, src, out, reading);
+        reading = read_some(room, store, lent, out, reading);
         if reading.ended {
             return reading;
         }
         turns -= 1;
     }
     reading
-}
-
-// Runs the last line if it lacks its end, and answers how many bytes wait to be written.
-fn finish(
-    room: &[u8],
-    store: &mut [u8],
-    lent: &mut [u8],
-    src: &mut [u8],
-    out: &mut [u8],
-    reading: Reading,
-) -> usize {
-    let bench = reading.bench;
-    if reading.length == 0 {
-        return bench.waiting;
-    }
-    let last = end_line(
-        reading.length,
-        room,
-        reading.number,
-        store,
-        lent,
-        src,
-        out,
-        bench,
-    );
-    last.waiting
 }
 
 fn begin() -> Reading {
@@ -324,33 +314,12 @@ fn begin() -> Reading {
     }
 }
 
-// Plays a script from the first line to the last.
-fn play(
-    chunk: &mut [u8],
-    room: &mut [u8],
-    store: &mut [u8],
-    lent: &mut [u8],
-    src: &mut [u8],
-    out: &mut [u8],
-) {
-    let reading = read_all(chunk, room, store, lent, src, out, begin());
-    let waiting = finish(room, store, lent, src, out, reading);
-    output::send(out, waiting);
-}
-
 fn main() {
-    let mut chunk = [0u8; 65536];
     let mut room = [0u8; LONGEST_LINE];
     let mut store = [0u8; LONGEST];
     let mut lent = [0u8; LONGEST];
-    let mut src = [0u8; LONGEST];
     let mut out = [0u8; 65536];
-    play(
-        &mut chunk,
-        &mut room,
-        &mut store,
-        &mut lent,
-        &mut src,
-        &mut out,
-    );
+    let reading = read_all(&mut room, &mut store, &mut lent, &mut out, begin());
+    let bench = reading.bench;
+    output::send(&out, bench.waiting);
 }

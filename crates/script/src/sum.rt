@@ -268,19 +268,24 @@ fn place(byte: u8) -> usize
 }
 
 // The remainder with one byte more.
-fn step(remainder: u32, byte: u8) -> u32 {
+fn step(table: &[u32; 256], remainder: u32, byte: u8) -> u32 {
     let low = (remainder % 256) as u8;
     let at = place(low ^ byte);
-    TABLE[at] ^ (remainder / 256)
+    table[at] ^ (remainder / 256)
 }
 
-// The sum of some bytes.
-pub fn sum_of(bytes: &[u8]) -> u32 {
+fn remainder_of(table: &[u32; 256], bytes: &[u8]) -> u32 {
     let mut remainder = u32::MAX;
     let mut i = 0;
     while i < bytes.len() {
-        remainder = step(remainder, bytes[i]);
+        remainder = step(table, remainder, bytes[i]);
         i += 1;
     }
-    remainder ^ u32::MAX
+    remainder
+}
+
+// The sum of some bytes. The table is lent, so that a byte costs no copy of it.
+pub fn sum_of(bytes: &[u8]) -> u32 {
+    let table = TABLE;
+    remainder_of(&table, bytes) ^ u32::MAX
 }

@@ -7,10 +7,10 @@ use Rattle.bench.proofs.feed.Statement.{statement}
 use Rattle.bench.proofs.feed.Tie as tie
 
 abbrev Inv-loop : tie.InvT-loop
-Inv-loop chunk room₀ store₀ lent₀ src₀ out₀ bench₀ number₀ filled₀ i₀ room store lent src out bench number filled i = (i ≤ length chunk) × (length room ≡ length room₀) × (length store ≡ length store₀) × (length lent ≡ length lent₀) × (length src ≡ length src₀) × (length out ≡ length out₀)
+Inv-loop chunk room₀ store₀ lent₀ out₀ bench₀ number₀ filled₀ i₀ room store lent out bench number filled i = (i ≤ length chunk) × (length room ≡ length room₀) × (length store ≡ length store₀) × (length lent ≡ length lent₀) × (length out ≡ length out₀)
 
 abbrev μ-loop : tie.MeasureT-loop
-μ-loop chunk room₀ store₀ lent₀ src₀ out₀ bench₀ number₀ filled₀ i₀ room store lent src out bench number filled i = length chunk - i
+μ-loop chunk room₀ store₀ lent₀ out₀ bench₀ number₀ filled₀ i₀ room store lent out bench number filled i = length chunk - i
 
 loop-holds : tie.Need-loop-holds Inv-loop μ-loop
 loop-holds c = search needs
@@ -48,9 +48,6 @@ same-length-3 c = search needs
 same-length-4 : tie.Need-same-length-4 Inv-loop μ-loop
 same-length-4 c = search needs
 
-same-length-5 : tie.Need-same-length-5 Inv-loop μ-loop
-same-length-5 c = search needs
-
 returns : tie.Need-returns Inv-loop μ-loop
 returns c = search needs
 
@@ -72,5 +69,4 @@ feed-spec =
     same-length-2
     same-length-3
     same-length-4
-    same-length-5
     returns)

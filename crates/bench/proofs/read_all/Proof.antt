@@ -6,10 +6,10 @@ use Rattle.bench.proofs.read_all.Statement.{statement}
 use Rattle.bench.proofs.read_all.Tie as tie
 
 abbrev Inv-loop : tie.InvT-loop
-Inv-loop chunk₀ room₀ store₀ lent₀ src₀ out₀ reading₀ turns₀ chunk room store lent src out reading turns = (length chunk ≡ length chunk₀) × (length room ≡ length room₀) × (length store ≡ length store₀) × (length lent ≡ length lent₀) × (length src ≡ length src₀) × (length out ≡ length out₀)
+Inv-loop room₀ store₀ lent₀ out₀ reading₀ turns₀ room store lent out reading turns = (length room ≡ length room₀) × (length store ≡ length store₀) × (length lent ≡ length lent₀) × (length out ≡ length out₀)
 
 abbrev μ-loop : tie.MeasureT-loop
-μ-loop chunk₀ room₀ store₀ lent₀ src₀ out₀ reading₀ turns₀ chunk room store lent src out reading turns = turns
+μ-loop room₀ store₀ lent₀ out₀ reading₀ turns₀ room store lent out reading turns = turns
 
 loop-holds : tie.Need-loop-holds Inv-loop μ-loop
 loop-holds c = search needs
@@ -29,12 +29,6 @@ same-length-3 c = search needs
 same-length-4 : tie.Need-same-length-4 Inv-loop μ-loop
 same-length-4 c = search needs
 
-same-length-5 : tie.Need-same-length-5 Inv-loop μ-loop
-same-length-5 c = search needs
-
-same-length-6 : tie.Need-same-length-6 Inv-loop μ-loop
-same-length-6 c = search needs
-
 returns : tie.Need-returns Inv-loop μ-loop
 returns c = search needs
 
@@ -47,23 +41,17 @@ loop-less c = search needs
 loop-again : tie.Need-loop-again Inv-loop μ-loop
 loop-again c = search needs
 
+same-length-5 : tie.Need-same-length-5 Inv-loop μ-loop
+same-length-5 c = search needs
+
+same-length-6 : tie.Need-same-length-6 Inv-loop μ-loop
+same-length-6 c = search needs
+
 same-length-7 : tie.Need-same-length-7 Inv-loop μ-loop
 same-length-7 c = search needs
 
 same-length-8 : tie.Need-same-length-8 Inv-loop μ-loop
 same-length-8 c = search needs
-
-same-length-9 : tie.Need-same-length-9 Inv-loop μ-loop
-same-length-9 c = search needs
-
-same-length-10 : tie.Need-same-length-10 Inv-loop μ-loop
-same-length-10 c = search needs
-
-same-length-11 : tie.Need-same-length-11 Inv-loop μ-loop
-same-length-11 c = search needs
-
-same-length-12 : tie.Need-same-length-12 Inv-loop μ-loop
-same-length-12 c = search needs
 
 returns-2 : tie.Need-returns-2 Inv-loop μ-loop
 returns-2 c = search needs
@@ -80,16 +68,12 @@ read-all-spec =
     same-length-2
     same-length-3
     same-length-4
-    same-length-5
-    same-length-6
     returns
     sub-turns
     loop-less
     loop-again
+    same-length-5
+    same-length-6
     same-length-7
     same-length-8
-    same-length-9
-    same-length-10
-    same-length-11
-    same-length-12
     returns-2)

@@ -1,15 +1,15 @@
--- `script::sum::sum_of` is safe and ends: i stays within the bytes.
+-- `script::sum::remainder_of` is safe and ends: i stays within the bytes.
 use Prim.Native.Nat.{_-_, _≤_}
 use lib.ListN.{length}
 use borrow.Author.Needs.{needs}
-use Rattle.script.proofs.sum.sum_of.Statement.{statement}
-use Rattle.script.proofs.sum.sum_of.Tie as tie
+use Rattle.script.proofs.sum.remainder_of.Statement.{statement}
+use Rattle.script.proofs.sum.remainder_of.Tie as tie
 
 abbrev Inv-loop : tie.InvT-loop
-Inv-loop bytes remainder₀ i₀ remainder i = i ≤ length bytes
+Inv-loop table bytes remainder₀ i₀ remainder i = i ≤ length bytes
 
 abbrev μ-loop : tie.MeasureT-loop
-μ-loop bytes remainder₀ i₀ remainder i = length bytes - i
+μ-loop table bytes remainder₀ i₀ remainder i = length bytes - i
 
 loop-holds : tie.Need-loop-holds Inv-loop μ-loop
 loop-holds c = search needs
@@ -32,8 +32,8 @@ loop-again c = search needs
 returns : tie.Need-returns Inv-loop μ-loop
 returns c = search needs
 
-pub sum-of-spec : {M : Type 1} → statement M
-sum-of-spec =
+pub remainder-of-spec : {M : Type 1} → statement M
+remainder-of-spec =
     tie.close
     (tie.spec
     Inv-loop
