@@ -9,11 +9,11 @@ use change::Ack;
 use change::AckOut;
 use change::Numbered;
 use change::NumberedOut;
+use command::Call;
 use fill::Filled;
 use flush::Flush;
 use flush::FlushOut;
 use script::bytes;
-use script::command::Call;
 use script::word;
 use state::State;
 
@@ -34,15 +34,8 @@ pub fn ring_in(call: Call, before: usize) -> usize {
 // How long the buffer is in a call.
 pub fn buffer_in(call: Call, before: usize) -> usize {
     match call {
-        Call::Fill {
-            pin: _,
-            node: _,
-            offset: _,
-            length,
-            fetched: _,
-            count: _,
-        } => length,
-        Call::Flush { node: _, length } => length,
+        Call::Fill { length, .. } => length,
+        Call::Flush { length, .. } => length,
         _ => before,
     }
 }
@@ -179,7 +172,7 @@ pub fn make_call(
     s: State,
 ) -> Answered {
     match call {
-        Call::Make { length: _ } => make(ring, s),
+        Call::Make { .. } => make(ring, s),
         Call::Reopen => numbered(calls::reopen(ring, s)),
         Call::Write {
             node,
@@ -193,9 +186,9 @@ pub fn make_call(
             pin,
             node,
             offset,
-            length: _,
             fetched,
             count,
+            ..
         } => answer::reply(
             s,
             fill_read(
@@ -211,7 +204,7 @@ pub fn make_call(
             ),
         ),
         Call::End { node } => answer::reply(s, ended(calls::cached_end(ring, s, node))),
-        Call::Flush { node, length: _ } => start_flush(ring, s, node, buffer),
+        Call::Flush { node, .. } => start_flush(ring, s, node, buffer),
         Call::Report { number, good } => acknowledged(calls::report(ring, s, number, good)),
         Call::Ticket => numbered(calls::take_ticket(ring, s)),
         Call::Ask { number, node } => {

@@ -2,8 +2,8 @@
 use crate::answer;
 use crate::answer::Answer;
 use crate::answer::Answered;
+use command::Setting;
 use layout::Ring;
-use script::command::Setting;
 use state::Listed;
 use state::PINS;
 use state::Pin;

@@ -2,8 +2,8 @@
 use crate::answer;
 use crate::output;
 use crate::show;
+use command::Look;
 use layout::Ring;
-use script::command::Look;
 use script::sum;
 use state::Listed;
 use state::PINS;

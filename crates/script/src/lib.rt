@@ -1,7 +1,6 @@
-// The bench script (docs/SCRIPT.md): its lines, words, numbers, bytes and commands, over byte slices. Nothing here reads or writes a file.
-// Each function takes any bytes. A command line is read with a pass or two over it; a sum is one pass.
+// The bench script (docs/SCRIPT.md): its lines, words, numbers and bytes, and the sum that it asks for, over byte slices. Nothing here reads or writes a file.
+// Each function takes any bytes. A word is found by a pass over the line up to it; a sum is one pass.
 pub mod bytes;
-pub mod command;
 pub mod line;
 pub mod sum;
 pub mod word;

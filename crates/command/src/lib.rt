@@ -1,11 +1,11 @@
 // Commands of a script: what a line asks for. A command is told by how many words it has and by the first of them.
-use crate::bytes;
-use crate::bytes::Byte;
-use crate::word;
-use crate::word::Number;
-use crate::word::Short;
-use crate::word::Size;
-use crate::word::Tiny;
+use script::bytes;
+use script::bytes::Byte;
+use script::word;
+use script::word::Number;
+use script::word::Short;
+use script::word::Size;
+use script::word::Tiny;
 
 // A call of the library.
 pub enum Call {
