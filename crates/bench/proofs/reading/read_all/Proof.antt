@@ -1,9 +1,9 @@
--- `bench::read_all` is safe and ends: the turns count down, and every buffer keeps its length.
+-- `bench::reading::read_all` is safe and ends: the turns count down, and every buffer keeps its length.
 use mathlib.Core.Path.{_≡_}
 use lib.ListN.{length}
 use borrow.Author.Needs.{needs}
-use Rattle.bench.proofs.read_all.Statement.{statement}
-use Rattle.bench.proofs.read_all.Tie as tie
+use Rattle.bench.proofs.reading.read_all.Statement.{statement}
+use Rattle.bench.proofs.reading.read_all.Tie as tie
 
 abbrev Inv-loop : tie.InvT-loop
 Inv-loop room₀ store₀ lent₀ out₀ reading₀ turns₀ room store lent out reading turns = (length room ≡ length room₀) × (length store ≡ length store₀) × (length lent ≡ length lent₀) × (length out ≡ length out₀)

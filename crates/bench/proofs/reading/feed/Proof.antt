@@ -1,10 +1,10 @@
--- `bench::feed` is safe and ends: i stays within the chunk, and every buffer keeps its length.
+-- `bench::reading::feed` is safe and ends: i stays within the chunk, and every buffer keeps its length.
 use Prim.Native.Nat.{_-_, _≤_}
 use mathlib.Core.Path.{_≡_}
 use lib.ListN.{length}
 use borrow.Author.Needs.{needs}
-use Rattle.bench.proofs.feed.Statement.{statement}
-use Rattle.bench.proofs.feed.Tie as tie
+use Rattle.bench.proofs.reading.feed.Statement.{statement}
+use Rattle.bench.proofs.reading.feed.Tie as tie
 
 abbrev Inv-loop : tie.InvT-loop
 Inv-loop chunk room₀ store₀ lent₀ out₀ bench₀ number₀ filled₀ i₀ room store lent out bench number filled i = (i ≤ length chunk) × (length room ≡ length room₀) × (length store ≡ length store₀) × (length lent ≡ length lent₀) × (length out ≡ length out₀)
