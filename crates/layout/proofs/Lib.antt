@@ -4,3 +4,4 @@ pub mod Views
 pub mod Numbers
 pub mod Puts
 pub mod Loops
+pub mod Turns

@@ -12,7 +12,7 @@ use lib.Dec.{eqb}
 use borrow.Author.Tests.{eq-eqb, ne-eqb}
 use Rattle.layout.specs.Sizes.{headerSize, spanOf}
 use Rattle.layout.specs.Bytes.{both, zerosAt, bytesAt, put}
-use Rattle.layout.proofs.Views.{bytes-length, bytes-snoc}
+use Rattle.layout.proofs.Views.{bytes-length, bytes-snoc, run-place}
 
 -- ---- a test of zeros: what was found of the bytes passed, and what is left
 
@@ -58,13 +58,15 @@ module _ (r₀ : List ℕ) (n p : ℕ) (bs : List ℕ) where
   put-start = record { upto = omega arith; same = refl; rest = rw add-zero }
 
   module _ (r : List ℕ) (i : ℕ) (o : Putting r₀ n p bs r i) where
-    pub put-next : (b : ℕ) → i < length bs → b ≡ getD bs i 0 → Putting r₀ n p bs (set r (headerSize + ((p + i) % spanOf n)) b) (i + 1)
+    pub put-next : (q b : ℕ) → q ≡ headerSize + (p % spanOf n) + i → (p % spanOf n) + i < spanOf n → i < length bs → b ≡ getD bs i 0 → Putting r₀ n p bs (set r q b) (i + 1)
     unfolding put
-    put-next b l e =
+    put-next q b d h l e =
+        let m = run-place p (spanOf n) i h in
+        let w : q ≡ headerSize + ((p + i) % spanOf n) = omega arith in
         record {
           upto = omega arith;
-          same = length-set r (headerSize + ((p + i) % spanOf n)) b ∙ o .same;
-          rest = o .rest ∙ rw (drop-cons bs i 0, ← e) (rw (add-one i, add-suc p i));
+          same = length-set r q b ∙ o .same;
+          rest = o .rest ∙ rw (w, drop-cons bs i 0, ← e) (rw (add-one i, add-suc p i));
         }
 
     pub put-done : length bs ≤ i → r ≡ put r₀ n p bs

@@ -5,7 +5,7 @@ use mathlib.Core.Path.{_≡_, refl, sym, ap, _∙_}
 use mathlib.Core.List.{List, [], _∷_, _++_}
 use mathlib.Core.Bool.{true}
 use native.Mathlib.Omega.{arith}
-use native.Mathlib.Nat.{add-zero, mod-lt, mod-eq-of-lt, mod-add-mod, mul-add-mod-self-right, div-add-mod', mul-assoc, add-mul}
+use native.Mathlib.Nat.{add-zero, zero-add, mod-lt, mod-eq-of-lt, mod-add-mod, mul-add-mod-self-right, div-add-mod', mul-assoc, add-mul}
 use lib.ListN.{length, getD, take, drop, length-drop}
 use lib.Seq.{ext-getD, length-take-le, getD-take, getD-drop}
 use borrow.Author.Tests.{eq-eqb}
@@ -77,6 +77,14 @@ bytes-snoc f p (suc c) =
     let e : suc p + c ≡ p + suc c = omega arith in
     ap (λ (l : List ℕ). f p ∷ l) (bytes-snoc f (suc p) c ∙ rw e)
 
+pub bytes-append : (a b : ℕ) (f : ℕ → ℕ) (p : ℕ) → bytesAt f p (a + b) ≡ bytesAt f p a ++ bytesAt f (p + a) b
+unfolding bytesAt
+bytes-append zero b f p = rw (add-zero p, zero-add b) refl
+bytes-append (suc a) b f p =
+    let w : suc a + b ≡ suc (a + b) = omega arith in
+    let z : suc p + a ≡ p + suc a = omega arith in
+    rw w (ap (_∷_ (f p)) (bytes-append a b f (suc p) ∙ ap (λ q. bytesAt f (suc p) a ++ bytesAt f q b) z))
+
 pub bytes-get : (c : ℕ) (f : ℕ → ℕ) (p i : ℕ) → i < c → getD (bytesAt f p c) i 0 ≡ f (p + i)
 unfolding bytesAt
 bytes-get zero f p i l = absurd (let w : ⊥ = omega arith in w)
@@ -129,14 +137,18 @@ in-ring r n p z =
     let l : 0 < spanOf n = omega (arith, z .low) in
     omega (arith, mod-lt p l, z .len)
 
--- a run that doesn't cross the end is a run of the buffer
+-- a place of a run that doesn't cross the end
+pub run-place : (p m i : ℕ) → (p % m) + i < m → (p + i) % m ≡ (p % m) + i
+run-place p m i h = sym (mod-add-mod p m i) ∙ mod-eq-of-lt h
+
+-- such a run is a run of the buffer
 pub round-flat : (r : List ℕ) (n p c : ℕ) → (p % spanOf n) + c ≤ spanOf n → Same (round r n) p (flat r) (headerSize + (p % spanOf n)) c
 unfolding round
 round-flat r n p c h =
     let m = spanOf n in
     record {
       at = λ i l.
-          let e : (p + i) % m ≡ (p % m) + i = sym (mod-add-mod p m i) ∙ mod-eq-of-lt (omega arith) in
+          let e : (p + i) % m ≡ (p % m) + i = run-place p m i (omega arith) in
           let d : headerSize + ((p + i) % m) ≡ headerSize + (p % m) + i = omega arith in
           ap (flat r) d;
     }

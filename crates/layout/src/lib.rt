@@ -1,9 +1,9 @@
 // The ring's own type, and the bytes below it: sizes named once, numbers little-endian, runs of
-// zeros, and copies round the ring's end with a remainder for each byte.
+// zeros, and copies round the ring's end in two moves.
 // Document 01, "The ring in battery memory". Every function here is one pass over the bytes it is
 // told of, and only our own crates call it: the callers show what it requires.
 ghost use mathlib.Core.Path.{_≡_};
-ghost use Prim.Native.Nat.{_+_, _*_, _≤_, _<_};
+ghost use Prim.Native.Nat.{_+_, _*_, _%_, _≤_, _<_};
 ghost use lib.ListN.{length, replicate};
 ghost use Rattle.layout.specs.Sizes.{spanOf, slotsOf};
 ghost use Rattle.layout.specs.Bytes.{
@@ -118,30 +118,81 @@ pub fn round_at(bytes: &[u8], n: usize, p: usize) -> u8
     bytes[Ring::HEADER + p % span]
 }
 
-// Copies out the bytes at place p of n slots, round the end, until the lent part is full.
+// Copies out the bytes at place p of n slots until the lent part is full; they don't go round the end.
+fn take_run(bytes: &[u8], n: usize, p: usize, out: &mut [u8])
+    requires { ⌜ Sized (now bytes) n ⌝ }
+    requires { ⌜ (p % spanOf n) + length (now out) ≤ spanOf n ⌝ }
+    ensures { λ _. ⌜ now (out .exit) ≡ bytesAt (round (now (bytes .entry)) n) p (length (now (out .entry))) ⌝ }
+{
+    let span = n * Ring::SLOT;
+    let start = Ring::HEADER + p % span;
+    let mut i = 0;
+    while i < out.len() {
+        out[i] = bytes[start + i];
+        i += 1;
+    }
+}
+
+// Copies out the bytes at place p of n slots, round the end, until the lent part is full: up to the ring's end, and then the rest.
 pub fn take_bytes(bytes: &[u8], n: usize, p: usize, out: &mut [u8])
     requires { ⌜ Sized (now bytes) n ⌝ }
     requires { ⌜ p + length (now out) ≤ spanOf n + spanOf n ⌝ }
     ensures { λ _. ⌜ now (out .exit) ≡ bytesAt (round (now (bytes .entry)) n) p (length (now (out .entry))) ⌝ }
 {
     let span = n * Ring::SLOT;
+    let left = span - p % span;
+    let count = out.len();
+    if count <= left {
+        take_run(bytes, n, p, out);
+        return;
+    }
+    take_run(bytes, n, p, &mut out[0..left]);
+    take_run(bytes, n, p + left, &mut out[left..count]);
+}
+
+// Stores src at place p of n slots; it doesn't go round the end.
+fn put_run(bytes: &mut [u8], n: usize, p: usize, src: &[u8])
+    requires { ⌜ Sized (now bytes) n ⌝ }
+    requires { ⌜ (p % spanOf n) + length (now src) ≤ spanOf n ⌝ }
+    ensures { λ _. ⌜ now (bytes .exit) ≡ put (now (bytes .entry)) n p (now (src .entry)) ⌝ }
+{
+    let span = n * Ring::SLOT;
+    let start = Ring::HEADER + p % span;
     let mut i = 0;
-    while i < out.len() {
-        out[i] = bytes[Ring::HEADER + (p + i) % span];
+    while i < src.len() {
+        bytes[start + i] = src[i];
         i += 1;
     }
 }
 
-// Stores src at place p of n slots, round the end.
+// Stores src at place p of n slots, round the end: up to the ring's end, and then the rest.
 pub fn put_bytes(bytes: &mut [u8], n: usize, p: usize, src: &[u8])
     requires { ⌜ Sized (now bytes) n ⌝ }
     requires { ⌜ (p ≤ spanOf n + spanOf n) × (length (now src) ≤ spanOf n) ⌝ }
     ensures { λ _. ⌜ now (bytes .exit) ≡ put (now (bytes .entry)) n p (now (src .entry)) ⌝ }
 {
     let span = n * Ring::SLOT;
+    let left = span - p % span;
+    let count = src.len();
+    if count <= left {
+        put_run(bytes, n, p, src);
+        return;
+    }
+    put_run(bytes, n, p, &src[0..left]);
+    put_run(bytes, n, p + left, &src[left..count]);
+}
+
+// Stores count zeros at place p of n slots; they don't go round the end.
+fn put_zero_run(bytes: &mut [u8], n: usize, p: usize, count: usize)
+    requires { ⌜ Sized (now bytes) n ⌝ }
+    requires { ⌜ (p % spanOf n) + count ≤ spanOf n ⌝ }
+    ensures { λ _. ⌜ now (bytes .exit) ≡ put (now (bytes .entry)) n p (replicate count 0) ⌝ }
+{
+    let span = n * Ring::SLOT;
+    let start = Ring::HEADER + p % span;
     let mut i = 0;
-    while i < src.len() {
-        bytes[Ring::HEADER + (p + i) % span] = src[i];
+    while i < count {
+        bytes[start + i] = 0;
         i += 1;
     }
 }
@@ -153,11 +204,13 @@ pub fn put_zeros(bytes: &mut [u8], n: usize, p: usize, count: usize)
     ensures { λ _. ⌜ now (bytes .exit) ≡ put (now (bytes .entry)) n p (replicate count 0) ⌝ }
 {
     let span = n * Ring::SLOT;
-    let mut i = 0;
-    while i < count {
-        bytes[Ring::HEADER + (p + i) % span] = 0;
-        i += 1;
+    let left = span - p % span;
+    if count <= left {
+        put_zero_run(bytes, n, p, count);
+        return;
     }
+    put_zero_run(bytes, n, p, left);
+    put_zero_run(bytes, n, p + left, count - left);
 }
 
 // Stores a number as two bytes at place p of n slots, round the end: its lowest 16 bits.

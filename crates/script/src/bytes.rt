@@ -2,7 +2,6 @@
 use crate::word;
 use crate::word::Size;
 ghost use Prim.Native.Nat.{_+_, _≤_, _<_};
-ghost use lib.ListN.{length};
 
 // The byte that two digits are, if they are digits.
 pub enum Byte {

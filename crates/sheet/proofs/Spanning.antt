@@ -1,14 +1,13 @@
 -- A span: bytes of a piece of which one write is the newest, copied at once.
-use Prim.Native.Nat.{ℕ, zero, suc, _+_, _-_, _*_, _≤_, _<_}
-use native.Mathlib.Nat.{add-zero, zero-add}
+use Prim.Native.Nat.{ℕ, _+_, _-_, _*_, _≤_, _<_}
 use native.Mathlib.Omega.{arith}
-use mathlib.Core.Path.{_≡_, refl, sym, ap, _∙_, subst}
-use mathlib.Core.List.{List, _∷_, _++_}
+use mathlib.Core.Path.{_≡_, sym, ap, _∙_, subst}
+use mathlib.Core.List.{List, _++_}
 use lib.ListN.{length, getD, take, drop, length-append, length-drop}
 use lib.Seq.{take-at, drop-drop, drop-append-add}
 use Rattle.layout.specs.Sizes.{slotSize, headSize}
 use Rattle.layout.specs.Bytes.{bytesAt}
-use Rattle.layout.proofs.Views.{bytes-same, bytes-get, bytes-part, bytes-length}
+use Rattle.layout.proofs.Views.{bytes-same, bytes-get, bytes-part, bytes-length, bytes-append}
 use Rattle.layout.proofs.Loops.{Taking}
 use Rattle.walk.specs.declared.Entry.{Entry}
 use Rattle.walk.specs.Entry.{dataOf}
@@ -19,14 +18,6 @@ use Rattle.sheet.specs.Places.{topOf, byteBy, Covered, FoundAt}
 use Rattle.sheet.proofs.Few.{top-covers}
 
 -- ---- a part of a buffer filled at once
-
-bytes-append : (a b : ℕ) (f : ℕ → ℕ) (p : ℕ) → bytesAt f p (a + b) ≡ bytesAt f p a ++ bytesAt f (p + a) b
-unfolding bytesAt
-bytes-append zero b f p = rw (add-zero p, zero-add b) refl
-bytes-append (suc a) b f p =
-    let w : suc a + b ≡ suc (a + b) = omega arith in
-    let z : suc p + a ≡ p + suc a = omega arith in
-    rw w (ap (_∷_ (f p)) (bytes-append a b f (suc p) ∙ ap (λ q. bytesAt f (suc p) a ++ bytesAt f q b) z))
 
 module _ (f : ℕ → ℕ) (p : ℕ) (out₀ out : List ℕ) (i j : ℕ) where
   pub take-span : (new : List ℕ) → Taking f p out₀ out i → i ≤ j → j ≤ length out₀ → new ≡ take i out ++ bytesAt f (p + i) (j - i) ++ drop j out → Taking f p out₀ new j

@@ -1,74 +1,99 @@
--- `layout::put_bytes` meets its contract. The invariant `Putting`: what is stored so far, and what is still to be stored.
-use Prim.Native.Nat.{_+_, _-_}
-use mathlib.Core.Path.{refl}
+-- `layout::put_bytes` meets its contract: one move after the other is both (`put-both`).
+use Prim.Native.Nat.{_-_, _%_}
+use mathlib.Core.Path.{_∙_, ap}
+use lib.ListN.{length, take, drop, length-take, length-drop}
+use Rattle.layout.specs.Sizes.{spanOf}
+use Rattle.layout.proofs.Puts.{length-put, sized-as}
+use Rattle.layout.proofs.Turns.{under, first-fits, rest-fits, put-both}
 use native.Mathlib.Omega.{arith}
-use lib.ListN.{length}
-use Rattle.layout.proofs.Loops.{Putting, put-start, put-next, put-done}
-use Rattle.layout.proofs.Views.{in-ring}
+use borrow.Author.Needs.{needs}
 use Rattle.layout.proofs.put_bytes.Statement.{statement}
 use Rattle.layout.proofs.put_bytes.Tie as tie
 
-abbrev Inv-loop : tie.InvT-loop
-Inv-loop bytes₀ n p src span i₀ bytes i = Putting bytes₀ n p src bytes i
+mul-span : tie.Need-mul-span
+mul-span c = search needs
 
-abbrev μ-loop : tie.MeasureT-loop
-μ-loop bytes₀ n p src span i₀ bytes i = length src - i
+rem-left : tie.Need-rem-left
+rem-left c = search needs
 
-mul-span : tie.Need-mul-span Inv-loop μ-loop
-mul-span c = omega arith
+sub-left : tie.Need-sub-left
+sub-left c =
+    let a = c .before .before .args in
+    under (a .p) (spanOf (a .n)) (let z = c .before .before .pre .0 .low in omega arith)
 
-loop-holds : tie.Need-loop-holds Inv-loop μ-loop
-loop-holds c = put-start _ _ _ _
+put-run-requires : tie.Need-put-run-requires
+put-run-requires c κs =
+    let a = c .before .before .before .before .args in
+    (c .before .before .before .before .pre .0, first-fits (a .p) (spanOf (a .n)) (let z = c .before .before .before .before .pre .0 .low in omega arith) _ (c .before .if1 .taken))
 
-shared-slice-read-bytes : tie.Need-shared-slice-read-bytes Inv-loop μ-loop
-shared-slice-read-bytes c = omega arith
+same-length : tie.Need-same-length
+same-length c = search needs
 
-add-bytes : tie.Need-add-bytes Inv-loop μ-loop
-add-bytes c = omega arith
+returns : tie.Need-returns
+returns c = search needs
 
-rem-bytes : tie.Need-rem-bytes Inv-loop μ-loop
-rem-bytes c = omega arith
+sub-put-run : tie.Need-sub-put-run
+sub-put-run c = search needs
 
-add-bytes-2 : tie.Need-add-bytes-2 Inv-loop μ-loop
-add-bytes-2 c =
-    let a = c .before .before .before .args in
-    omega (arith, in-ring (a .bytes .now) (a .n) (a .p + c .before .before .loop .i) (c .before .before .before .pre .0))
+part-put-run-start : tie.Need-part-put-run-start
+part-put-run-start c = search needs
 
-slice-write-bytes : tie.Need-slice-write-bytes Inv-loop μ-loop
-slice-write-bytes c =
-    let a = c .before .before .before .args in
-    omega (arith, in-ring (a .bytes .now) (a .n) (a .p + c .before .before .loop .i) (c .before .before .before .pre .0))
+part-put-run-end : tie.Need-part-put-run-end
+part-put-run-end c = search needs
 
-add-i : tie.Need-add-i Inv-loop μ-loop
-add-i c = omega arith
+put-run-requires-2 : tie.Need-put-run-requires-2
+put-run-requires-2 c κs =
+    let a = c .before .before .before .before .before .args in
+    (c .before .before .before .before .before .pre .0, first-fits (a .p) (spanOf (a .n)) (let z = c .before .before .before .before .before .pre .0 .low in omega arith) _ (let e = length-take (spanOf (a .n) - (a .p % spanOf (a .n)) - 0) (a .src .now) in omega arith))
 
-loop-less : tie.Need-loop-less Inv-loop μ-loop
-loop-less c = omega arith
+add-put-run : tie.Need-add-put-run
+add-put-run c = search needs
 
-loop-again : tie.Need-loop-again Inv-loop μ-loop
-loop-again c = put-next _ _ _ _ _ _ (c .before .before .loop .inv) _ (omega arith) refl
+sub-put-run-2 : tie.Need-sub-put-run-2
+sub-put-run-2 c = search needs
 
-same-length : tie.Need-same-length Inv-loop μ-loop
-same-length c = c .before .loop .inv .same
+part-put-run-start-2 : tie.Need-part-put-run-start-2
+part-put-run-start-2 c = search needs
 
-returns : tie.Need-returns Inv-loop μ-loop
-returns c = put-done _ _ _ _ _ _ (c .before .loop .inv) (omega arith)
+part-put-run-end-2 : tie.Need-part-put-run-end-2
+part-put-run-end-2 c = search needs
+
+put-run-requires-3 : tie.Need-put-run-requires-3
+put-run-requires-3 c κs =
+    let a = c .before .before .before .before .before .before .before .before .before .before .args in
+    let m = spanOf (a .n) in
+    let u = c .before .before .before .before .before .before .before .before .before .before .pre .1 .1 in
+    let e = length-take (length (a .src .now) - (m - (a .p % m))) (drop (m - (a .p % m)) (a .src .now)) in
+    let d = length-drop (m - (a .p % m)) (a .src .now) in
+    (sized-as _ (c .before .before .before .before .before .before .before .before .before .before .pre .0) (ap length (c .before .before .before .before .put-run2 .ensures) ∙ length-put (take (m - (a .p % m) - 0) (a .src .now)) (a .bytes .now) (a .n) (a .p)), rest-fits (a .p) m (let z = c .before .before .before .before .before .before .before .before .before .before .pre .0 .low in omega arith) _ (omega arith))
+
+same-length-2 : tie.Need-same-length-2
+same-length-2 c = search needs
+
+returns-2 : tie.Need-returns-2
+returns-2 c =
+    let a = c .before .before .before .before .before .before .before .before .before .before .before .before .before .args in
+    let m = spanOf (a .n) in
+    put-both (a .src .now) (a .bytes .now) _ _ (a .n) (a .p) (m - (a .p % m)) (let h = c .before .before .before .before .before .before .before .before .before .before .if1 .left in omega arith) (c .before .before .before .before .before .before .before .put-run2 .ensures) (c .before .before .put-run3 .ensures)
 
 pub put-bytes-spec : {M : Type 1} → statement M
 put-bytes-spec =
     tie.close
     (tie.spec
-    Inv-loop
-    μ-loop
     mul-span
-    loop-holds
-    shared-slice-read-bytes
-    add-bytes
-    rem-bytes
-    add-bytes-2
-    slice-write-bytes
-    add-i
-    loop-less
-    loop-again
+    rem-left
+    sub-left
+    put-run-requires
     same-length
-    returns)
+    returns
+    sub-put-run
+    part-put-run-start
+    part-put-run-end
+    put-run-requires-2
+    add-put-run
+    sub-put-run-2
+    part-put-run-start-2
+    part-put-run-end-2
+    put-run-requires-3
+    same-length-2
+    returns-2)

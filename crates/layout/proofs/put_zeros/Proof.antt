@@ -1,76 +1,77 @@
--- `layout::put_zeros` meets its contract. `put_bytes` of as many zeros: the same invariant, `Putting`.
-use Prim.Native.Nat.{ℕ, _+_, _-_}
-use mathlib.Core.Path.{sym}
+-- `layout::put_zeros` meets its contract: one move after the other is both (`zeros-both`).
+use Prim.Native.Nat.{_-_, _%_}
+use mathlib.Core.Path.{_∙_, ap}
+use lib.ListN.{length, replicate}
+use Rattle.layout.specs.Sizes.{spanOf}
+use Rattle.layout.proofs.Puts.{length-put, sized-as}
+use Rattle.layout.proofs.Turns.{under, first-fits, rest-fits, zeros-both}
 use native.Mathlib.Omega.{arith}
-use lib.ListN.{replicate, length-replicate, getD-replicate}
-use Rattle.layout.proofs.Loops.{Putting, put-start, put-next, put-done}
-use Rattle.layout.proofs.Views.{in-ring}
+use borrow.Author.Needs.{needs}
 use Rattle.layout.proofs.put_zeros.Statement.{statement}
 use Rattle.layout.proofs.put_zeros.Tie as tie
 
-abbrev Inv-loop : tie.InvT-loop
-Inv-loop bytes₀ n p count span i₀ bytes i = Putting bytes₀ n p (replicate count 0) bytes i
+mul-span : tie.Need-mul-span
+mul-span c = search needs
 
-abbrev μ-loop : tie.MeasureT-loop
-μ-loop bytes₀ n p count span i₀ bytes i = count - i
+rem-left : tie.Need-rem-left
+rem-left c = search needs
 
-mul-span : tie.Need-mul-span Inv-loop μ-loop
-mul-span c = omega arith
+sub-left : tie.Need-sub-left
+sub-left c =
+    let a = c .before .args in
+    under (a .p) (spanOf (a .n)) (let z = c .before .pre .0 .low in omega arith)
 
-loop-holds : tie.Need-loop-holds Inv-loop μ-loop
-loop-holds c = put-start _ _ _ _
+put-zero-run-requires : tie.Need-put-zero-run-requires
+put-zero-run-requires c κs =
+    let a = c .before .before .before .args in
+    (c .before .before .before .pre .0, first-fits (a .p) (spanOf (a .n)) (let z = c .before .before .before .pre .0 .low in omega arith) _ (c .before .if1 .taken))
 
-add-bytes : tie.Need-add-bytes Inv-loop μ-loop
-add-bytes c = omega arith
+same-length : tie.Need-same-length
+same-length c = search needs
 
-rem-bytes : tie.Need-rem-bytes Inv-loop μ-loop
-rem-bytes c = omega arith
+returns : tie.Need-returns
+returns c = search needs
 
-add-bytes-2 : tie.Need-add-bytes-2 Inv-loop μ-loop
-add-bytes-2 c =
-    let a = c .before .before .args in
-    omega (arith, in-ring (a .bytes .now) (a .n) (a .p + c .before .loop .i) (c .before .before .pre .0))
+put-zero-run-requires-2 : tie.Need-put-zero-run-requires-2
+put-zero-run-requires-2 c κs =
+    let a = c .before .before .before .args in
+    (c .before .before .before .pre .0, first-fits (a .p) (spanOf (a .n)) (let z = c .before .before .before .pre .0 .low in omega arith) _ (omega arith))
 
-slice-write-bytes : tie.Need-slice-write-bytes Inv-loop μ-loop
-slice-write-bytes c =
-    let a = c .before .before .args in
-    omega (arith, in-ring (a .bytes .now) (a .n) (a .p + c .before .loop .i) (c .before .before .pre .0))
+add-put-zero-run : tie.Need-add-put-zero-run
+add-put-zero-run c = search needs
 
-add-i : tie.Need-add-i Inv-loop μ-loop
-add-i c = omega arith
+sub-put-zero-run : tie.Need-sub-put-zero-run
+sub-put-zero-run c = search needs
 
-loop-less : tie.Need-loop-less Inv-loop μ-loop
-loop-less c = omega arith
+put-zero-run-requires-3 : tie.Need-put-zero-run-requires-3
+put-zero-run-requires-3 c κs =
+    let a = c .before .before .before .before .before .before .before .args in
+    let m = spanOf (a .n) in
+    let u = c .before .before .before .before .before .before .before .pre .1 .1 in
+    (sized-as _ (c .before .before .before .before .before .before .before .pre .0) (ap length (c .before .before .before .put-zero-run2 .ensures) ∙ length-put (replicate (m - (a .p % m)) 0) (a .bytes .now) (a .n) (a .p)), rest-fits (a .p) m (let z = c .before .before .before .before .before .before .before .pre .0 .low in omega arith) _ (omega arith))
 
-loop-again : tie.Need-loop-again Inv-loop μ-loop
-loop-again c =
-    let l = c .before .loop in
-    let n = c .before .before .args .count in
-    let k = length-replicate {A = ℕ} n 0 in
-    put-next _ _ _ _ _ _ (l .inv) 0 (omega (arith, k)) (sym (getD-replicate n (l .i) 0 0 (omega arith)))
+same-length-2 : tie.Need-same-length-2
+same-length-2 c = search needs
 
-same-length : tie.Need-same-length Inv-loop μ-loop
-same-length c = c .before .loop .inv .same
-
-returns : tie.Need-returns Inv-loop μ-loop
-returns c =
-    let k = length-replicate {A = ℕ} (c .before .before .args .count) 0 in
-    put-done _ _ _ _ _ _ (c .before .loop .inv) (omega (arith, k))
+returns-2 : tie.Need-returns-2
+returns-2 c =
+    let a = c .before .before .before .before .before .before .before .before .before .before .args in
+    let m = spanOf (a .n) in
+    zeros-both (a .bytes .now) _ _ (a .n) (a .p) (m - (a .p % m)) (a .count) (let h = c .before .before .before .before .before .before .before .before .if1 .left in omega arith) (c .before .before .before .before .before .before .put-zero-run2 .ensures) (c .before .before .put-zero-run3 .ensures)
 
 pub put-zeros-spec : {M : Type 1} → statement M
 put-zeros-spec =
     tie.close
     (tie.spec
-    Inv-loop
-    μ-loop
     mul-span
-    loop-holds
-    add-bytes
-    rem-bytes
-    add-bytes-2
-    slice-write-bytes
-    add-i
-    loop-less
-    loop-again
+    rem-left
+    sub-left
+    put-zero-run-requires
     same-length
-    returns)
+    returns
+    put-zero-run-requires-2
+    add-put-zero-run
+    sub-put-zero-run
+    put-zero-run-requires-3
+    same-length-2
+    returns-2)

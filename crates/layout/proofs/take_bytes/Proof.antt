@@ -1,76 +1,101 @@
--- `layout::take_bytes` meets its contract. The invariant `Taking`: the front of the lent part is copied, the rest is as it was.
-use Prim.Native.Nat.{_+_, _-_}
-use mathlib.Core.Path.{refl}
-use native.Mathlib.Omega.{arith}
-use lib.ListN.{length}
+-- `layout::take_bytes` meets its contract: what came back in the two parts, said of the whole (`taken-both`).
+use Prim.Native.Nat.{_+_, _-_, _%_, _≤_}
+use mathlib.Core.List.{_++_}
+use borrow.Rule.Slice.PartMut.{postOf}
+use native.Mathlib.Nat.{mod-le}
+use lib.ListN.{length, drop, length-take}
+use Rattle.layout.specs.Sizes.{spanOf}
 use Rattle.layout.specs.Bytes.{round}
-use Rattle.layout.proofs.Loops.{Taking, take-start, take-next, take-done}
-use Rattle.layout.proofs.Views.{in-ring}
+use Rattle.layout.proofs.Turns.{under, first-fits, rest-fits, taken-both}
+use native.Mathlib.Omega.{arith}
+use borrow.Author.Needs.{needs}
 use Rattle.layout.proofs.take_bytes.Statement.{statement}
 use Rattle.layout.proofs.take_bytes.Tie as tie
 
-abbrev Inv-loop : tie.InvT-loop
-Inv-loop bytes n p out₀ span i₀ out i = Taking (round bytes n) p out₀ out i
+mul-span : tie.Need-mul-span
+mul-span c = search needs
 
-abbrev μ-loop : tie.MeasureT-loop
-μ-loop bytes n p out₀ span i₀ out i = length out₀ - i
+rem-left : tie.Need-rem-left
+rem-left c = search needs
 
-mul-span : tie.Need-mul-span Inv-loop μ-loop
-mul-span c = omega arith
-
-loop-holds : tie.Need-loop-holds Inv-loop μ-loop
-loop-holds c = take-start _ _ _
-
-add-out : tie.Need-add-out Inv-loop μ-loop
-add-out c = omega arith
-
-rem-out : tie.Need-rem-out Inv-loop μ-loop
-rem-out c = omega arith
-
-add-out-2 : tie.Need-add-out-2 Inv-loop μ-loop
-add-out-2 c =
+sub-left : tie.Need-sub-left
+sub-left c =
     let a = c .before .before .args in
-    omega (arith, in-ring (a .bytes .now) (a .n) (a .p + c .before .loop .i) (c .before .before .pre .0))
+    under (a .p) (spanOf (a .n)) (let z = c .before .before .pre .0 .low in omega arith)
 
-shared-slice-read-out : tie.Need-shared-slice-read-out Inv-loop μ-loop
-shared-slice-read-out c =
-    let a = c .before .before .before .args in
-    omega (arith, in-ring (a .bytes .now) (a .n) (a .p + c .before .before .loop .i) (c .before .before .before .pre .0))
+take-run-requires : tie.Need-take-run-requires
+take-run-requires c κs =
+    let a = c .before .before .before .before .args in
+    (c .before .before .before .before .pre .0, first-fits (a .p) (spanOf (a .n)) (let z = c .before .before .before .before .pre .0 .low in omega arith) _ (c .before .if1 .taken))
 
-slice-write-out : tie.Need-slice-write-out Inv-loop μ-loop
-slice-write-out c = omega arith
+same-length : tie.Need-same-length
+same-length c = search needs
 
-add-i : tie.Need-add-i Inv-loop μ-loop
-add-i c = omega arith
+returns : tie.Need-returns
+returns c = search needs
 
-loop-less : tie.Need-loop-less Inv-loop μ-loop
-loop-less c = omega arith
+sub-take-run : tie.Need-sub-take-run
+sub-take-run c = search needs
 
-loop-again : tie.Need-loop-again Inv-loop μ-loop
-unfolding round
-loop-again c = take-next _ _ _ _ _ (c .before .before .loop .inv) _ (omega arith) refl
+part-take-run-start : tie.Need-part-take-run-start
+part-take-run-start c = search needs
 
-same-length : tie.Need-same-length Inv-loop μ-loop
-same-length c = c .before .loop .inv .same
+part-take-run-end : tie.Need-part-take-run-end
+part-take-run-end c = search needs
 
-returns : tie.Need-returns Inv-loop μ-loop
-returns c = take-done _ _ _ _ _ (c .before .loop .inv) (omega arith)
+take-run-requires-2 : tie.Need-take-run-requires-2
+take-run-requires-2 c κs =
+    let a = c .before .before .before .before .args in
+    (c .before .before .before .before .pre .0, first-fits (a .p) (spanOf (a .n)) (let z = c .before .before .before .before .pre .0 .low in omega arith) _ (let e = length-take (spanOf (a .n) - (a .p % spanOf (a .n)) - 0) (a .out .now) in omega arith))
+
+add-take-run : tie.Need-add-take-run
+add-take-run c = search needs
+
+sub-take-run-2 : tie.Need-sub-take-run-2
+sub-take-run-2 c = search needs
+
+part-take-run-start-2 : tie.Need-part-take-run-start-2
+part-take-run-start-2 c = search needs
+
+part-take-run-end-2 : tie.Need-part-take-run-end-2
+part-take-run-end-2 c = search needs
+
+take-run-requires-3 : tie.Need-take-run-requires-3
+take-run-requires-3 c κs =
+    let a = c .before .before .before .before .before .before .before .before .args in
+    let m = spanOf (a .n) in
+    let q : (a .p % m) ≤ a .p = mod-le (a .p) m in
+    let u = c .before .before .before .before .before .before .before .before .pre .1 in
+    let e = length-take (length (a .out .now) - (m - (a .p % m))) (drop (m - (a .p % m)) (c .before .before .before .take-run2 .last .1 .1 .1 .0 ++ postOf 0 (m - (a .p % m) - 0) (a .out .now))) in
+    (c .before .before .before .before .before .before .before .before .pre .0, rest-fits (a .p) m (let z = c .before .before .before .before .before .before .before .before .pre .0 .low in omega arith) _ (omega arith))
+
+same-length-2 : tie.Need-same-length-2
+same-length-2 c = search needs
+
+returns-2 : tie.Need-returns-2
+returns-2 c =
+    let a = c .before .before .before .before .before .before .before .before .before .before .before .args in
+    let m = spanOf (a .n) in
+    taken-both (round (a .bytes .now) (a .n)) (a .p) (m - (a .p % m)) (a .out .now) _ _ (let h = c .before .before .before .before .before .before .before .before .if1 .left in omega arith) (c .before .before .before .before .before .before .take-run2 .ensures) (c .before .before .take-run3 .ensures)
 
 pub take-bytes-spec : {M : Type 1} → statement M
 take-bytes-spec =
     tie.close
     (tie.spec
-    Inv-loop
-    μ-loop
     mul-span
-    loop-holds
-    add-out
-    rem-out
-    add-out-2
-    shared-slice-read-out
-    slice-write-out
-    add-i
-    loop-less
-    loop-again
+    rem-left
+    sub-left
+    take-run-requires
     same-length
-    returns)
+    returns
+    sub-take-run
+    part-take-run-start
+    part-take-run-end
+    take-run-requires-2
+    add-take-run
+    sub-take-run-2
+    part-take-run-start-2
+    part-take-run-end-2
+    take-run-requires-3
+    same-length-2
+    returns-2)
