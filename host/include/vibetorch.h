@@ -1,4 +1,5 @@
-/* Vibetorch for a host in C: the write-back cache of a chart box. Link libcabi.a, which `./host/build` makes.
+/* Vibetorch for a host in C: the write-back cache of a chart box. Link target/staticlib/libcabi.a, which `rt staticlib cabi`
+ * makes; it is for x86-64 Linux and needs nothing beside it.
  *
  * The library keeps nothing. The host owns the ring (battery memory), the state, and the buffers that it lends; each call
  * gets the ring and the state that the last one left. Every call answers every value of every number, of the ring's bytes
