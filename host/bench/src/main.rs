@@ -1,0 +1,56 @@
+//! Times each call of the proved library and the same call of the second program, which is ordinary Rust, in one run, and prints
+//! the ratios. Nothing is asserted about them.
+
+mod call;
+mod case;
+mod machine;
+mod time;
+
+use case::{Case, large_batches, largest_write, on_full_ring};
+use time::{RUNS, Times, time};
+
+const SIZES: [usize; 5] = [18, 32, 64, 128, 255];
+const LARGEST: usize = 255;
+
+fn main() {
+    println!("Machine: {}.", machine::describe());
+    println!(
+        "Each time is the median of {RUNS} runs, in nanoseconds; a ratio is library / ordinary Rust, both optimised."
+    );
+    println!("32 writes of 4,096 take 544 slots and no ring has them: the batches are 14 of 4,096 and 32 of 1,768.");
+    println!();
+    large_table();
+    println!();
+    growth_table();
+}
+
+/// Every call on the largest ring, full.
+fn large_table() {
+    println!("| call, full ring of N = {LARGEST} | library | ordinary | ratio |");
+    println!("|---|---:|---:|---:|");
+    let mut cases = on_full_ring(LARGEST);
+    cases.push(largest_write(LARGEST));
+    cases.extend(large_batches(LARGEST));
+    for case in &cases {
+        let times = time(case);
+        println!("| {} | {} | {} | {:.2} |", case.name, times.library, times.ordinary, times.ratio());
+    }
+}
+
+/// How each call grows with the ring: the library's time, and the ratio.
+fn growth_table() {
+    let sizes = SIZES.map(|slots| format!(" N = {slots} |")).concat();
+    println!("| call, full ring: library (ratio) |{sizes}");
+    println!("|---|{}", "---:|".repeat(SIZES.len()));
+    let columns: Vec<Vec<Case>> = SIZES.iter().map(|&slots| on_full_ring(slots)).collect();
+    for row in 0..columns[0].len() {
+        let cell = |times: Times| format!(" {} ({:.2}) |", times.library, times.ratio());
+        let cells: String = columns.iter().map(|cases| cell(time(&cases[row]))).collect();
+        println!("| {} |{cells}", without_count(&columns[columns.len() - 1][row].name));
+    }
+}
+
+/// The name as it is in the last column; a small ring has fewer writes than it says.
+fn without_count(name: &str) -> String {
+    name.replace("254 writes", "N − 1 writes").replace("of 32 writes", "of up to 32 writes")
+}
