@@ -15,11 +15,14 @@ const PROT_READ: c_int = 1;
 const PROT_WRITE: c_int = 2;
 const MAP_SHARED: c_int = 1;
 const MS_SYNC: c_int = 4;
+const LOCK_EX: c_int = 2;
+const LOCK_NB: c_int = 4;
 
 unsafe extern "C" {
     fn mmap(at: *mut c_void, length: usize, protection: c_int, flags: c_int, file: c_int, from: i64) -> *mut c_void;
     fn munmap(at: *mut c_void, length: usize) -> c_int;
     fn msync(at: *mut c_void, length: usize, flags: c_int) -> c_int;
+    safe fn flock(file: c_int, operation: c_int) -> c_int;
 }
 
 pub struct RingFile {
@@ -56,7 +59,9 @@ impl RingFile {
     pub fn open(path: &Path) -> Result<RingFile, Trouble> {
         let name = |error: io::Error| Trouble::file(path, error);
         let file = File::options().read(true).write(true).open(path).map_err(name)?;
-        file.try_lock().map_err(|error| Trouble::file(path, format!("in use by another box: {error}")))?;
+        if flock(file.as_raw_fd(), LOCK_EX | LOCK_NB) != 0 {
+            return Err(Trouble::file(path, format!("in use by another box: {}", io::Error::last_os_error())));
+        }
         let length = file.metadata().map_err(name)?.len();
         let is_ring = |slots: usize| ring_bytes(slots) as u64 == length;
         if !(SLOTS_LEAST..=SLOTS_MOST).any(is_ring) {
