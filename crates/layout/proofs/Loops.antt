@@ -1,8 +1,8 @@
 -- The loops of this crate, each as a named invariant with what begins it, carries it on and ends it.
 use Prim.Native.Nat.{ℕ, suc, _+_, _-_, _%_, _≤_, _<_}
-use mathlib.Core.Path.{_≡_, refl, sym, _∙_}
+use mathlib.Core.Path.{_≡_, refl, sym, ap, _∙_}
 use mathlib.Core.List.{List, [], _∷_, _++_, append-assoc, append-nil}
-use mathlib.Core.Bool.{true, false}
+use mathlib.Core.Bool.{Bool, true, false}
 use native.Mathlib.Omega.{arith}
 use native.Mathlib.Nat.{add-zero, add-suc, sub-zero}
 use native.Mathlib.Numerals.{add-one}
@@ -14,17 +14,19 @@ use Rattle.layout.specs.Sizes.{headerSize, spanOf}
 use Rattle.layout.specs.Bytes.{both, zerosAt, bytesAt, put}
 use Rattle.layout.proofs.Views.{bytes-length, bytes-snoc}
 
--- ---- a test of zeros: the bytes passed are zero, so that what is left decides
+-- ---- a test of zeros: what was found of the bytes passed, and what is left
 
 module _ (f : ℕ → ℕ) (p c : ℕ) where
-  pub zeros-start : zerosAt f p c ≡ zerosAt f (p + 0) (c - 0)
+  pub zeros-start : zerosAt f p c ≡ both true (zerosAt f (p + 0) (c - 0))
+  unfolding both
   zeros-start = rw (add-zero, sub-zero)
 
-  pub zeros-done : (i : ℕ) → c ≤ i → zerosAt f (p + i) (c - i) ≡ true
-  unfolding zerosAt
-  zeros-done i h = let e : c - i ≡ 0 = omega arith in rw e
+  pub zeros-done : (clear : Bool) (i : ℕ) → c ≤ i → both clear (zerosAt f (p + i) (c - i)) ≡ clear
+  unfolding both zerosAt
+  zeros-done true i h = let e : c - i ≡ 0 = omega arith in rw e
+  zeros-done false i h = refl
 
-  module _ (i : ℕ) (h : i < c) where
+  module _ (clear : Bool) (i : ℕ) (h : i < c) where
     zeros-step : zerosAt f (p + i) (c - i) ≡ both (eqb (f (p + i)) 0) (zerosAt f (p + (i + 1)) (c - (i + 1)))
     unfolding zerosAt
     zeros-step =
@@ -32,13 +34,17 @@ module _ (f : ℕ → ℕ) (p c : ℕ) where
         let q : suc (p + i) ≡ p + (i + 1) = omega arith in
         rw (e, q)
 
-    pub zeros-next : f (p + i) ≡ 0 → zerosAt f (p + i) (c - i) ≡ zerosAt f (p + (i + 1)) (c - (i + 1))
+    pub zeros-next : f (p + i) ≡ 0 → both clear (zerosAt f (p + i) (c - i)) ≡ both clear (zerosAt f (p + (i + 1)) (c - (i + 1)))
     unfolding both
-    zeros-next z = zeros-step ∙ rw (eq-eqb (f (p + i)) 0 z)
+    zeros-next z = ap (both clear) (zeros-step ∙ rw (eq-eqb (f (p + i)) 0 z))
 
-    pub zeros-hit : (f (p + i) ≡ 0 → ⊥) → zerosAt f (p + i) (c - i) ≡ false
+    pub zeros-hit : (f (p + i) ≡ 0 → ⊥) → both clear (zerosAt f (p + i) (c - i)) ≡ both false (zerosAt f (p + (i + 1)) (c - (i + 1)))
     unfolding both
-    zeros-hit z = zeros-step ∙ rw (ne-eqb (f (p + i)) 0 z)
+    zeros-hit z = ap (both clear) (zeros-step ∙ rw (ne-eqb (f (p + i)) 0 z)) ∙ neither clear
+      where
+        neither : (b : Bool) → both b false ≡ false
+        neither true = refl
+        neither false = refl
 
 -- ---- storing: what is stored so far, and what is still to be stored
 

@@ -93,19 +93,20 @@ pub fn number8_at(bytes: &[u8], p: usize) -> u64
     number4_at(bytes, p) as u64 + 4294967296 * (number4_at(bytes, p + 4) as u64)
 }
 
-// Whether the count bytes at p are zero.
+// Whether the count bytes at p are zero. It looks at all of them: without a way out the compiler takes many bytes at once.
 pub fn zeros_at(bytes: &[u8], p: usize, count: usize) -> bool
     requires { ⌜ p + count ≤ length (now bytes) ⌝ }
     ensures { λ r. ⌜ r ≡ zerosAt (flat (now (bytes .entry))) p count ⌝ }
 {
+    let mut clear = true;
     let mut i = 0;
     while i < count {
         if bytes[p + i] != 0 {
-            return false;
+            clear = false;
         }
         i += 1;
     }
-    true
+    clear
 }
 
 // The byte at place p of n slots, round the end.

@@ -63,6 +63,7 @@ pub const MOVES: [[u8; 5]; 4] = [
 pub const PINS: usize = 16;
 
 // A write as the state lists it.
+#[repr(C)]
 pub struct Listed {
     pub number: u64,
     // One of the four states.
@@ -70,6 +71,7 @@ pub struct Listed {
 }
 
 // A pin; number 0 is a free record.
+#[repr(C)]
 pub struct Pin {
     pub number: u64,
     pub mark: u64,
@@ -77,6 +79,7 @@ pub struct Pin {
     pub node: u32,
 }
 
+#[repr(C)]
 pub struct State {
     // The next number that a write, a pin, a flush start or a ticket takes.
     pub next: u64,

@@ -1,0 +1,2 @@
+-- What the script's readers promise.
+pub mod Within
