@@ -9,7 +9,7 @@ const NODE: u32 = 7;
 const ONE_SLOT: usize = 232;
 
 pub struct Case {
-    pub name: String,
+    pub name: &'static str,
     pub call: Call,
     pub library: Library,
     pub ordinary: Ordinary,
@@ -66,10 +66,10 @@ impl Setup {
         self
     }
 
-    fn case(self, name: impl Into<String>, call: Call) -> Case {
+    fn case(self, name: &'static str, call: Call) -> Case {
         let Side { ring, state, buffer } = &self.side;
         let ordinary = Side { ring: ring.clone(), state: translated(state), buffer: buffer.clone() };
-        Case { name: name.into(), call, library: self.side, ordinary }
+        Case { name, call, library: self.side, ordinary }
     }
 }
 
@@ -85,14 +85,14 @@ fn translated(state: &raw::State) -> State {
     other
 }
 
-/// Each call on a full ring of so many slots.
+/// Each call on a ring of so many slots, full of one-slot writes, or where it takes a slot, full but for one. A batch is 32 writes, or
+/// all where the ring holds fewer.
 pub fn on_full_ring(slots: usize) -> Vec<Case> {
     let full = || Setup::new(slots).filled(0);
     let flush = full().flushing().side.state.flush;
     // Flushed behind a pin for them: unpinning lets a whole batch go.
     let held = || full().pinned().flushing().reported();
     let pin = held().side.state.pins[0].number;
-    let batch = vibetorch::BATCH.min(slots - 1);
     let write = |length| Call::Write { node: NODE, offset: 5, bytes: vec![0x4E; length] };
     vec![
         full().case("make", Call::Make),
@@ -100,25 +100,24 @@ pub fn on_full_ring(slots: usize) -> Vec<Case> {
         Setup::new(slots).filled(1).case("write of 1 byte", write(1)),
         Setup::new(slots).filled(1).case("write of 232", write(ONE_SLOT)),
         full().case("pin", Call::Pin { node: NODE }),
-        held().case(format!("unpin, {batch} leave"), Call::Unpin { number: pin }),
+        held().case("unpin, a batch leaves", Call::Unpin { number: pin }),
         full().case("cached end", Call::End { node: NODE }),
-        full().lent(SHEET_MOST).case(format!("flush of {batch} writes of 232"), Call::Start { node: NODE }),
-        full().flushing().case(format!("report good of {batch}"), Call::Report { number: flush, good: true }),
-        full().flushing().case(format!("report bad of {batch}"), Call::Report { number: flush, good: false }),
+        full().lent(SHEET_MOST).case("flush of a batch of 232 each", Call::Start { node: NODE }),
+        full().flushing().case("report good of a batch", Call::Report { number: flush, good: true }),
+        full().flushing().case("report bad of a batch", Call::Report { number: flush, good: false }),
         full().case("take ticket", Call::Ticket),
         full().case("ask ticket", Call::Ask { ticket: slots as u64, node: 8 }),
         full().case("turn", Call::Turn),
-        fill(slots, ONE_SLOT),
-        fill(slots, 16),
+        fill("fill of 65,536 over writes of 232", slots, ONE_SLOT),
+        fill("fill of 65,536 over writes of 16", slots, 16),
     ]
 }
 
 /// A fill of 65,536 bytes, half of them fetched, over writes that are spread over it.
-fn fill(slots: usize, length: usize) -> Case {
+fn fill(name: &'static str, slots: usize, length: usize) -> Case {
     let count = slots - 1;
     let setup = Setup::new(slots).writes(count, length, (FILL_MOST - length) / count).pinned().lent(FILL_MOST);
     let pin = setup.side.state.pins[0].number;
-    let name = format!("fill of 65,536 over {count} writes of {length}");
     setup.case(name, Call::Fill { pin, node: NODE, fetched: FILL_MOST / 2 })
 }
 
@@ -128,11 +127,11 @@ pub fn largest_write(slots: usize) -> Case {
     Setup::new(slots).filled(17).case("write of 4,096", write)
 }
 
-/// The largest batches that the largest ring can hold.
+/// The largest batches that the largest ring can hold. 32 writes of 4,096 take 544 slots, and no ring has them.
 pub fn large_batches(slots: usize) -> Vec<Case> {
-    let flush = |count: usize, length: usize| {
+    let flush = |name, count: usize, length: usize| {
         let setup = Setup::new(slots).writes(count, length, length).lent(SHEET_MOST);
-        setup.case(format!("flush of {count} writes of {length}"), Call::Start { node: NODE })
+        setup.case(name, Call::Start { node: NODE })
     };
-    vec![flush(14, 4096), flush(32, 1768)]
+    vec![flush("flush of 14 writes of 4,096", 14, 4096), flush("flush of 32 writes of 1,768", 32, 1768)]
 }

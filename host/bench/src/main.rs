@@ -15,16 +15,21 @@ const LARGEST: usize = 255;
 fn main() {
     println!("Machine: {}.", machine::describe());
     println!(
-        "Each time is the median of {RUNS} runs, in nanoseconds; a ratio is library / ordinary Rust, both optimised."
+        "Each time is the median of {RUNS} runs (slow calls: fewer), in nanoseconds. A ratio is the library's time to that of"
     );
-    println!("32 writes of 4,096 take 544 slots and no ring has them: the batches are 14 of 4,096 and 32 of 1,768.");
+    println!(
+        "ordinary Rust, both optimised, in one process and in turn on the same bytes. A batch is 32 writes, or all that a small"
+    );
+    println!(
+        "ring holds. 32 writes of 4,096 bytes take 544 slots, which no ring has: instead 14 of 4,096, and 32 of 1,768."
+    );
     println!();
     large_table();
     println!();
     growth_table();
 }
 
-/// Every call on the largest ring, full.
+/// Every call on the largest ring.
 fn large_table() {
     println!("| call, full ring of N = {LARGEST} | library | ordinary | ratio |");
     println!("|---|---:|---:|---:|");
@@ -43,14 +48,9 @@ fn growth_table() {
     println!("| call, full ring: library (ratio) |{sizes}");
     println!("|---|{}", "---:|".repeat(SIZES.len()));
     let columns: Vec<Vec<Case>> = SIZES.iter().map(|&slots| on_full_ring(slots)).collect();
-    for row in 0..columns[0].len() {
+    for (row, first) in columns[0].iter().enumerate() {
         let cell = |times: Times| format!(" {} ({:.2}) |", times.library, times.ratio());
         let cells: String = columns.iter().map(|cases| cell(time(&cases[row]))).collect();
-        println!("| {} |{cells}", without_count(&columns[columns.len() - 1][row].name));
+        println!("| {} |{cells}", first.name);
     }
-}
-
-/// The name as it is in the last column; a small ring has fewer writes than it says.
-fn without_count(name: &str) -> String {
-    name.replace("254 writes", "N − 1 writes").replace("of 32 writes", "of up to 32 writes")
 }

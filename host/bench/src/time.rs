@@ -3,9 +3,12 @@
 use crate::call::{Answer, Side};
 use crate::case::Case;
 use std::hint::black_box;
-use std::time::Instant;
+use std::time::{Duration, Instant};
 
 pub const RUNS: usize = 1001;
+/// A case that is slow is run less often.
+const ENOUGH: Duration = Duration::from_secs(1);
+const LEAST_RUNS: usize = 51;
 
 /// Medians in nanoseconds.
 pub struct Times {
@@ -29,7 +32,11 @@ pub fn time(case: &Case) -> Times {
     assert!(mine.ring == other.ring && mine.buffer == other.buffer, "{name}: the bytes differ");
 
     let (mut of_library, mut of_ordinary) = (Vec::with_capacity(RUNS), Vec::with_capacity(RUNS));
-    for _ in 0..RUNS {
+    let began = Instant::now();
+    for run in 0..RUNS {
+        if run >= LEAST_RUNS && began.elapsed() > ENOUGH {
+            break;
+        }
         restore(&mut mine, library);
         of_library.push(once(|| call.of_library(black_box(&mut mine))));
         restore(&mut other, ordinary);

@@ -211,7 +211,8 @@ impl<'ring> Cache<'ring> {
         Ok(begun.map(|begun| Flush { number: begun.number, length: begun.length, loan: PhantomData }))
     }
 
-    /// Reports a flush: good only if the whole sheet landed. Writes that no pin holds then leave the ring, oldest first.
+    /// Reports a flush: good only if the whole sheet landed. Writes that no pin holds then leave the ring, oldest first. Once it is
+    /// reported, good or bad, no byte of the sheet may land any more.
     ///
     /// Refused: 7, where it isn't this ring's flush.
     ///
