@@ -7,21 +7,18 @@ mod machine;
 mod time;
 
 use case::{Case, large_batches, largest_write, on_full_ring};
-use time::{RUNS, Times, time};
+use time::{ROUNDS, RUNS, Times, measure};
 
 const SIZES: [usize; 5] = [18, 32, 64, 128, 255];
 const LARGEST: usize = 255;
 
 fn main() {
     println!("Machine: {}.", machine::describe());
+    println!();
     println!(
-        "Each time is the median of {RUNS} runs (slow calls: fewer), in nanoseconds. A ratio is the library's time to that of"
-    );
-    println!(
-        "ordinary Rust, both optimised, in one process and in turn on the same bytes. A batch is 32 writes, or all that a small"
-    );
-    println!(
-        "ring holds. 32 writes of 4,096 bytes take 544 slots, which no ring has: instead 14 of 4,096, and 32 of 1,768."
+        "Times are in nanoseconds, each the lowest of {ROUNDS} medians of {RUNS} runs (slow calls: fewer). A ratio is the library's time\n\
+         to that of ordinary Rust, both optimised, in one process and in turn on the same bytes. A batch is 32 writes, or all that a\n\
+         small ring holds. 32 writes of 4,096 bytes take 544 slots, which no ring has: instead 14 of 4,096, and 32 of 1,768."
     );
     println!();
     large_table();
@@ -36,8 +33,7 @@ fn large_table() {
     let mut cases = on_full_ring(LARGEST);
     cases.push(largest_write(LARGEST));
     cases.extend(large_batches(LARGEST));
-    for case in &cases {
-        let times = time(case);
+    for (case, times) in cases.iter().zip(measure(&cases)) {
         println!("| {} | {} | {} | {:.2} |", case.name, times.library, times.ordinary, times.ratio());
     }
 }
@@ -47,10 +43,12 @@ fn growth_table() {
     let sizes = SIZES.map(|slots| format!(" N = {slots} |")).concat();
     println!("| call, full ring: library (ratio) |{sizes}");
     println!("|---|{}", "---:|".repeat(SIZES.len()));
-    let columns: Vec<Vec<Case>> = SIZES.iter().map(|&slots| on_full_ring(slots)).collect();
-    for (row, first) in columns[0].iter().enumerate() {
-        let cell = |times: Times| format!(" {} ({:.2}) |", times.library, times.ratio());
-        let cells: String = columns.iter().map(|cases| cell(time(&cases[row]))).collect();
-        println!("| {} |{cells}", first.name);
+    let cases: Vec<Case> = SIZES.iter().flat_map(|&slots| on_full_ring(slots)).collect();
+    let times = measure(&cases);
+    let rows = cases.len() / SIZES.len();
+    for row in 0..rows {
+        let cell = |times: &Times| format!(" {} ({:.2}) |", times.library, times.ratio());
+        let cells: String = times[row..].iter().step_by(rows).map(cell).collect();
+        println!("| {} |{cells}", cases[row].name);
     }
 }

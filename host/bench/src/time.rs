@@ -1,16 +1,18 @@
-//! Timing: both sides in turn, each from the same box, and the median of many runs.
+//! Timing: both sides in turn, each from the same box. A time is the median of many runs, in the quietest of some rounds over all
+//! cases, since the machine may have other work to do.
 
 use crate::call::{Answer, Side};
 use crate::case::Case;
 use std::hint::black_box;
 use std::time::{Duration, Instant};
 
-pub const RUNS: usize = 1001;
-/// A case that is slow is run less often.
-const ENOUGH: Duration = Duration::from_secs(1);
-const LEAST_RUNS: usize = 51;
+pub const ROUNDS: usize = 7;
+pub const RUNS: usize = 201;
+/// A round of slow calls is shorter.
+const ENOUGH: Duration = Duration::from_millis(200);
+const LEAST_RUNS: usize = 11;
 
-/// Medians in nanoseconds.
+/// In nanoseconds.
 pub struct Times {
     pub library: u64,
     pub ordinary: u64,
@@ -22,25 +24,38 @@ impl Times {
     }
 }
 
-/// Times a case, having seen that both sides answer and leave the same bytes.
-pub fn time(case: &Case) -> Times {
+/// Times each case, having seen that both sides answer and leave the same bytes.
+pub fn measure(cases: &[Case]) -> Vec<Times> {
+    cases.iter().for_each(compare);
+    let mut quietest: Vec<Times> = cases.iter().map(round).collect();
+    for _ in 1..ROUNDS {
+        for (case, least) in cases.iter().zip(&mut quietest) {
+            let times = round(case);
+            least.library = least.library.min(times.library);
+            least.ordinary = least.ordinary.min(times.ordinary);
+        }
+    }
+    quietest
+}
+
+fn compare(case: &Case) {
     let Case { name, call, library, ordinary } = case;
     let (mut mine, mut other) = (library.clone(), ordinary.clone());
     let answer = call.of_library(&mut mine);
     assert!(answer.is_some(), "{name} is refused");
     assert_eq!(answer, call.of_ordinary(&mut other), "{name}");
     assert!(mine.ring == other.ring && mine.buffer == other.buffer, "{name}: the bytes differ");
+}
 
-    let (mut of_library, mut of_ordinary) = (Vec::with_capacity(RUNS), Vec::with_capacity(RUNS));
+fn round(case: &Case) -> Times {
+    let (mut mine, mut other) = (case.library.clone(), case.ordinary.clone());
+    let (mut of_library, mut of_ordinary) = (Vec::new(), Vec::new());
     let began = Instant::now();
-    for run in 0..RUNS {
-        if run >= LEAST_RUNS && began.elapsed() > ENOUGH {
-            break;
-        }
-        restore(&mut mine, library);
-        of_library.push(once(|| call.of_library(black_box(&mut mine))));
-        restore(&mut other, ordinary);
-        of_ordinary.push(once(|| call.of_ordinary(black_box(&mut other))));
+    while of_library.len() < RUNS && (of_library.len() < LEAST_RUNS || began.elapsed() < ENOUGH) {
+        restore(&mut mine, &case.library);
+        of_library.push(once(|| case.call.of_library(black_box(&mut mine))));
+        restore(&mut other, &case.ordinary);
+        of_ordinary.push(once(|| case.call.of_ordinary(black_box(&mut other))));
     }
     Times { library: median(of_library), ordinary: median(of_ordinary) }
 }
