@@ -11,8 +11,8 @@
  *  - no two calls run at once on one ring.
  *
  * And for nothing to be lost: only flush sheets change the files on shore; a flush is reported good only if its whole sheet
- * landed; once it is reported, or the box restarted, no byte of it lands any more; nobody else changes the ring's bytes, and a
- * ring in use is never made anew.
+ * landed; once it is reported, or the box restarted, no byte of it lands any more; nobody else changes the ring's bytes, and
+ * a ring in use is never made anew.
  */
 #ifndef VIBETORCH_H
 #define VIBETORCH_H

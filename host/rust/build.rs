@@ -17,7 +17,8 @@ fn main() {
         println!("cargo::error=libcabi.a is for x86-64 Linux only, and can't be linked for {processor} {system}");
     } else if !archive.is_file() {
         println!(
-            "cargo::error={} is missing: run 'rt staticlib cabi' in the repository's root, or let VIBETORCH_LIB name the folder that has it",
+            "cargo::error={} is missing: run 'rt staticlib cabi' in the repository's root, \
+             or let VIBETORCH_LIB name the folder that has it",
             archive.display()
         );
     } else {

@@ -85,8 +85,8 @@ fn translated(state: &raw::State) -> State {
     other
 }
 
-/// Each call on a ring of so many slots, full of one-slot writes, or where it takes a slot, full but for one. A batch is 32 writes, or
-/// all where the ring holds fewer.
+/// Each call on a ring of so many slots, full of one-slot writes, or where it takes a slot, full but for one. A batch
+/// is 32 writes, or all where the ring holds fewer.
 pub fn on_full_ring(slots: usize) -> Vec<Case> {
     let full = || Setup::new(slots).filled(0);
     let flush = full().flushing().side.state.flush;

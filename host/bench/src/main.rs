@@ -1,5 +1,5 @@
-//! Times each call of the proved library and the same call of the second program, which is ordinary Rust, in one run, and prints
-//! the ratios. Nothing is asserted about them.
+//! Times each call of the proved library and the same call of the second program, which is ordinary Rust, in one run,
+//! and prints the ratios. Nothing is asserted about them.
 
 mod call;
 mod case;
@@ -15,11 +15,14 @@ const LARGEST: usize = 255;
 fn main() {
     println!("Machine: {}.", machine::describe());
     println!();
+    println!("Times are in nanoseconds, each the lowest of {ROUNDS} medians of {RUNS} runs (slow calls: fewer).");
     println!(
-        "Times are in nanoseconds, each the lowest of {ROUNDS} medians of {RUNS} runs (slow calls: fewer). A ratio is the library's time\n\
-         to that of ordinary Rust, both optimised, in one process and in turn on the same bytes. A batch is 32 writes, or all that a\n\
-         small ring holds. 32 writes of 4,096 bytes take 544 slots, which no ring has: instead 14 of 4,096, and 32 of 1,768."
+        "A ratio is the library's time to that of ordinary Rust, both optimised, in one process, in turn on the same bytes."
     );
+    println!(
+        "A batch is 32 writes, or all that a small ring holds. 32 writes of 4,096 bytes take 544 slots, which no ring has:"
+    );
+    println!("instead 14 of 4,096, and 32 of 1,768.");
     println!();
     large_table();
     println!();

@@ -1,5 +1,5 @@
-//! Timing: both sides in turn, each from the same box. A time is the median of many runs, in the quietest of some rounds over all
-//! cases, since the machine may have other work to do.
+//! Timing: both sides in turn, each from the same box. A time is the median of many runs, in the quietest of some
+//! rounds over all cases, since the machine may have other work to do.
 
 use crate::call::{Answer, Side};
 use crate::case::Case;

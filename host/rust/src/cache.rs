@@ -6,11 +6,12 @@ use crate::refused::Refused;
 use core::fmt;
 use core::marker::PhantomData;
 
-/// A ring with the state that fits it. Only [`make`](Cache::make) and [`reopen`](Cache::reopen) give one, and as long as it
-/// lives nobody else can change the ring, so no call finds a state that doesn't fit (unless the memory itself fails).
+/// A ring with the state that fits it. Only [`make`](Cache::make) and [`reopen`](Cache::reopen) give one, and as long
+/// as it lives nobody else can change the ring, so no call finds a state that doesn't fit (unless the memory itself
+/// fails).
 ///
-/// The ring outlives the cache; the state needn't. What a restart does is: drop the cache, and reopen the ring. Pins, flushes and
-/// tickets can't be used past that:
+/// The ring outlives the cache; the state needn't. What a restart does is: drop the cache, and reopen the ring. Pins,
+/// flushes and tickets can't be used past that:
 ///
 /// ```compile_fail,E0499
 /// use vibetorch::{Cache, Node, ring_bytes};
@@ -24,8 +25,8 @@ use core::marker::PhantomData;
 /// # Ok::<(), vibetorch::Refused>(())
 /// ```
 ///
-/// A host with several rings keeps each ring's pins, flushes and tickets beside it. They are told apart by their numbers, and two
-/// rings give the same ones.
+/// A host with several rings keeps each ring's pins, flushes and tickets beside it. They are told apart by their
+/// numbers, and two rings give the same ones.
 pub struct Cache<'ring> {
     ring: &'ring mut [u8],
     state: State,
@@ -54,8 +55,8 @@ impl<'ring> Cache<'ring> {
         Ok(Cache { ring, state })
     }
 
-    /// Reopens a ring after a restart. Every write that it holds is Unflushed again, no pin lives and no flush is under way.
-    /// No byte is changed.
+    /// Reopens a ring after a restart. Every write that it holds is Unflushed again, no pin lives and no flush is
+    /// under way. No byte is changed.
     ///
     /// Refused: 8.
     ///
@@ -97,8 +98,8 @@ impl<'ring> Cache<'ring> {
         raw::write(self.ring, &mut self.state, node.number(), handle, offset, bytes).map(WriteNumber)
     }
 
-    /// Pins a node, or [`All`](crate::All), before a file is fetched for a read: writes that may not be in what is fetched
-    /// stay in the ring until the pin ends.
+    /// Pins a node, or [`All`](crate::All), before a file is fetched for a read: writes that may not be in what is
+    /// fetched stay in the ring until the pin ends.
     ///
     /// Refused: 5, 10.
     ///
@@ -136,9 +137,10 @@ impl<'ring> Cache<'ring> {
         raw::unpin(self.ring, &mut self.state, pin.number)
     }
 
-    /// Fills a read of the pin's node: the buffer's first `fetched` bytes came from shore, at one moment after the pin was
-    /// taken; `fetched` is the lesser of the buffer's length and what the shore's file has from `offset` on. Gives the bytes that
-    /// may be shown, which are those that were written last; the buffer behind them is unchanged.
+    /// Fills a read of the pin's node: the buffer's first `fetched` bytes came from shore, at one moment after the
+    /// pin was taken; `fetched` is the lesser of the buffer's length and what the shore's file has from `offset` on.
+    /// Gives the bytes that may be shown, which are those that were written last; the buffer behind them is
+    /// unchanged.
     ///
     /// Refused: 3, 9 where this ring has no such pin, 11.
     ///
@@ -184,8 +186,8 @@ impl<'ring> Cache<'ring> {
         raw::cached_end(self.ring, &self.state, node.number())
     }
 
-    /// Starts a flush of a node. Its sheet stands in the front of the buffer, to be sent to shore; [`Sheet`](crate::Sheet) reads
-    /// it. None: there is nothing to flush.
+    /// Starts a flush of a node. Its sheet stands in the front of the buffer, to be sent to shore;
+    /// [`Sheet`](crate::Sheet) reads it. None: there is nothing to flush.
     ///
     /// Refused: 6, 5, and 11 where the buffer is shorter than the sheet, which is
     /// [`SHEET_MOST`](crate::SHEET_MOST) bytes at most.
@@ -211,8 +213,8 @@ impl<'ring> Cache<'ring> {
         Ok(begun.map(|begun| Flush { number: begun.number, length: begun.length, loan: PhantomData }))
     }
 
-    /// Reports a flush: good only if the whole sheet landed. Writes that no pin holds then leave the ring, oldest first. Once it is
-    /// reported, good or bad, no byte of the sheet may land any more.
+    /// Reports a flush: good only if the whole sheet landed. Writes that no pin holds then leave the ring, oldest
+    /// first. Once it is reported, good or bad, no byte of the sheet may land any more.
     ///
     /// Refused: 7, where it isn't this ring's flush.
     ///

@@ -88,8 +88,8 @@ impl fmt::Display for WriteNumber {
     }
 }
 
-/// Keeps a handle's lifetime that of the ring's loan. So a ring can't be opened again while the handle is still to be used:
-/// at a restart the host forgets old pins, flushes and tickets.
+/// Keeps a handle's lifetime that of the ring's loan. So a ring can't be opened again while the handle is still to be
+/// used: at a restart the host forgets old pins, flushes and tickets.
 pub(crate) type Loan<'ring> = PhantomData<&'ring mut [u8]>;
 
 /// A live pin, for a node or for all. It ends by [`unpin`](crate::Cache::unpin), once.

@@ -1,9 +1,9 @@
 //! Vibetorch, the write-back cache of a chart box, for hosts in Rust.
 //!
-//! Tablets write chart files to the box; the box keeps each write in a *ring* in battery-held memory, says "done", and sends it
-//! to the file server on *shore* when the radio allows. The library behind this crate (`libcabi.a`) is proved: nothing that was
-//! accepted is lost, turned into an old value, or put out of order. It keeps nothing itself, allocates nothing and does no input or
-//! output; the host owns the memory and does the radio work.
+//! Tablets write chart files to the box; the box keeps each write in a *ring* in battery-held memory, says "done",
+//! and sends it to the file server on *shore* when the radio allows. The library behind this crate (`libcabi.a`) is
+//! proved: nothing that was accepted is lost, turned into an old value, or put out of order. It keeps nothing itself,
+//! allocates nothing and does no input or output; the host owns the memory and does the radio work.
 //!
 //! A [`Cache`] is a lent ring with its state. The life of a write, from tablet to shore:
 //!
@@ -38,8 +38,9 @@
 //! # Ok::<(), vibetorch::Refused>(())
 //! ```
 //!
-//! A call that can't be done is [`Refused`], and has then changed nothing. [`raw`] has the calls as the library has them, for any
-//! state and any numbers. The example `chart_box` keeps the ring in a mapped file and the shore in a folder.
+//! A call that can't be done is [`Refused`], and has then changed nothing. [`raw`] has the calls as the library has
+//! them, for any state and any numbers. The example `chart_box` keeps the ring in a mapped file and the shore in a
+//! folder.
 #![no_std]
 #![warn(missing_docs, missing_debug_implementations)]
 

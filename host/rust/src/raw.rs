@@ -1,8 +1,9 @@
 //! Every call with any state and any numbers, as the library has them.
 //!
-//! The library keeps nothing: the caller brings ring and state, and each call gets what the last one left. Whatever the ring's
-//! bytes, the state and the numbers are, the call is answered, so nothing here is unsafe; but nothing here keeps old
-//! numbers from being used again, or a state from being used with another ring. [`Cache`](crate::Cache) does.
+//! The library keeps nothing: the caller brings ring and state, and each call gets what the last one left. Whatever
+//! the ring's bytes, the state and the numbers are, the call is answered, so nothing here is unsafe; but nothing here
+//! keeps old numbers from being used again, or a state from being used with another ring. [`Cache`](crate::Cache)
+//! does.
 //!
 //! ```
 //! use vibetorch::{Refused, raw, ring_bytes};
@@ -95,7 +96,8 @@ const _: () = {
     assert!(offset_of!(Changed, answer) == size_of::<State>());
 };
 
-// A slice of Rust is never null, and a `&mut` one overlaps no other: what the library asks of pointers holds of all calls below.
+// A slice of Rust is never null, and a `&mut` one overlaps no other: what the library asks of pointers holds of all
+// calls below.
 unsafe extern "C" {
     fn vibetorch_make(ring: *mut u8, ring_length: usize, state: State) -> Changed;
     fn vibetorch_reopen(ring: *const u8, ring_length: usize, state: State) -> Changed;

@@ -3,8 +3,8 @@
 use core::error::Error;
 use core::fmt;
 
-/// The reason of a refusal, with its number and words in the table of the paper, "When the box says no". A refused call has
-/// changed no state and no byte.
+/// The reason of a refusal, with its number and words in the table of the paper, "When the box says no". A refused
+/// call has changed no state and no byte.
 ///
 /// ```
 /// use vibetorch::{Node, Refused};

@@ -6,7 +6,8 @@ use crate::sizes::{BATCH, FILE_END, WRITE_MOST};
 const HEAD: usize = 8;
 const PLACE: usize = 8;
 
-/// A sheet that was read. Each piece's bytes belong at its offset in the node's file; past the file's end the gap is zeros.
+/// A sheet that was read. Each piece's bytes belong at its offset in the node's file; past the file's end the gap is
+/// zeros.
 ///
 /// ```
 /// use vibetorch::{Cache, Node, SHEET_MOST, Sheet, ring_bytes};
@@ -43,8 +44,9 @@ pub struct Piece<'a> {
 }
 
 impl<'a> Sheet<'a> {
-    /// Reads the bytes of a whole sheet, and no more; none if they aren't one. A sheet may have come over a radio, so all is
-    /// tested: the count of pieces, the node, that pieces ascend and don't overlap, and that no byte is missing or left.
+    /// Reads the bytes of a whole sheet, and no more; none if they aren't one. A sheet may have come over a radio, so
+    /// all is tested: the count of pieces, the node, that pieces ascend and don't overlap, and that no byte is
+    /// missing or left.
     pub fn read(sheet: &'a [u8]) -> Option<Sheet<'a>> {
         let (head, rest) = sheet.split_at_checked(HEAD)?;
         let count = word(head, 0) as usize;

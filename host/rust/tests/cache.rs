@@ -131,7 +131,8 @@ fn some_write(random: &mut Random) -> (Node, u32, Vec<u8>) {
     (node(random.between(1, 3) as u32), random.below(700) as u32, random.bytes(length as usize))
 }
 
-/// Random writes, sheets that land whole or in part, and restarts at any place. At the end the shore has what was written.
+/// Random writes, sheets that land whole or in part, and restarts at any place. At the end the shore has what was
+/// written.
 #[test]
 fn restarts_lose_nothing() {
     for seed in 0..40 {

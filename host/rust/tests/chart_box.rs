@@ -1,5 +1,5 @@
-//! The example host, in processes of its own: stopped between any two steps and started again, it loses nothing and the shore ends
-//! right; and ring files that are none.
+//! The example host, in processes of its own: stopped between any two steps and started again, it loses nothing and
+//! the shore ends right; and ring files that are none.
 
 #[path = "../examples/chart_box/ring_file.rs"]
 #[allow(dead_code)]

@@ -1,4 +1,5 @@
-//! The crate against `vibetorch.h`: what stands in both must be the same. The structs' layout is asserted in `raw` itself.
+//! The crate against `vibetorch.h`: what stands in both must be the same. The structs' layout is asserted in `raw`
+//! itself.
 
 use vibetorch::*;
 

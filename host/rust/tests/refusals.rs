@@ -12,6 +12,7 @@ struct Boxed {
     buffer: Vec<u8>,
 }
 
+type Before = fn() -> Boxed;
 type Call = fn(&mut Boxed) -> Result<(), Refused>;
 
 /// A ring of 18 slots where write 1 (node 7) is held, pin 2 is for node 7, pin 3 for all.
@@ -112,7 +113,7 @@ const CALLS: [(&str, Call); 11] = [
 
 /// Each refusal from each call that gives it.
 #[rustfmt::skip]
-const REFUSALS: &[(u32, fn() -> Boxed, Call)] = &[
+const REFUSALS: &[(u32, Before, Call)] = &[
     (1, usual, |b| write(b, 0, 0, b"Q")),
     (1, usual, |b| fill(b, 2, 0, 0, 1)),
     (1, usual, |b| raw::cached_end(&b.ring, &b.state, 0).map(|_| ())),

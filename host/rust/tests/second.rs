@@ -1,5 +1,5 @@
-//! The library through this crate against the second program: the same commands on both, and after each the same answer, ring,
-//! state and buffer.
+//! The library through this crate against the second program: the same commands on both, and after each the same
+//! answer, ring, state and buffer.
 
 use second::generate::generate;
 use second::player::{Answer, Player};

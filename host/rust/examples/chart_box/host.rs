@@ -1,4 +1,5 @@
-//! The host: what it does with the cache and the shore for each command. Between any two steps the plug may be pulled.
+//! The host: what it does with the cache and the shore for each command. Between any two steps the plug may be
+//! pulled.
 
 use crate::command::Command;
 use crate::plug::Plug;

@@ -1,7 +1,8 @@
-//! A chart box in small: the ring is a mapped file, `DIR/ring`, and the shore a folder with a file for each node, `DIR/shore/NODE`.
+//! A chart box in small: the ring is a mapped file, `DIR/ring`, and the shore a folder with a file for each node,
+//! `DIR/shore/NODE`.
 //!
-//! Nothing else is kept. At each start the ring is reopened, so the box may be stopped between any two calls and started
-//! again: nothing that was answered "done" is lost, and the shore ends right.
+//! Nothing else is kept. At each start the ring is reopened, so the box may be stopped between any two calls and
+//! started again: nothing that was answered "done" is lost, and the shore ends right.
 
 mod command;
 mod host;

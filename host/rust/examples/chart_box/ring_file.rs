@@ -1,4 +1,5 @@
-//! The ring's file, mapped into memory: a byte that is stored there outlives the process, and a synced one the machine.
+//! The ring's file, mapped into memory: a byte that is stored there outlives the process, and a synced one the
+//! machine.
 
 use crate::trouble::Trouble;
 use std::ffi::{c_int, c_void};
@@ -33,8 +34,8 @@ pub struct RingFile {
 }
 
 impl RingFile {
-    /// Makes the file of an empty ring, and its folder. It gets its name only once it is whole, and never the name of a file
-    /// that is there.
+    /// Makes the file of an empty ring, and its folder. It gets its name only once it is whole, and never the name of
+    /// a file that is there.
     pub fn make(path: &Path, slots: usize) -> Result<(), Trouble> {
         if !(SLOTS_LEAST..=SLOTS_MOST).contains(&slots) {
             return Err(Trouble::Words(format!("a ring has {SLOTS_LEAST} to {SLOTS_MOST} slots, and not {slots}")));
