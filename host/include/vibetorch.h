@@ -1,4 +1,5 @@
-/* Vibetorch for a host in C: the write-back cache of a chart box. Link libcabi.a, which `./host/build` makes.
+/* Vibetorch for a host in C: the write-back cache of a chart box. Link target/staticlib/libcabi.a, which `rt staticlib cabi`
+ * makes; it is for x86-64 Linux and needs nothing beside it.
  *
  * The library keeps nothing. The host owns the ring (battery memory), the state, and the buffers that it lends; each call
  * gets the ring and the state that the last one left. Every call answers every value of every number, of the ring's bytes
@@ -8,6 +9,10 @@
  *  - a pointer leads to as many bytes as the length beside it says, and isn't null, not even with length 0;
  *  - the ring, the bytes of a write and a lent buffer don't overlap each other or the state;
  *  - no two calls run at once on one ring.
+ *
+ * And for nothing to be lost: only flush sheets change the files on shore; a flush is reported good only if its whole sheet
+ * landed; once it is reported, or the box restarted, no byte of it lands any more; nobody else changes the ring's bytes, and
+ * a ring in use is never made anew.
  */
 #ifndef VIBETORCH_H
 #define VIBETORCH_H
