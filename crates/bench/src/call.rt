@@ -1,7 +1,4 @@
 // The calls of the library, as a script makes them.
-use crate::answer;
-use crate::answer::Answer;
-use crate::answer::Answered;
 use calls::Asked;
 use calls::Ended;
 use calls::Turn;
@@ -13,6 +10,9 @@ use command::Call;
 use fill::Filled;
 use flush::Flush;
 use flush::FlushOut;
+use looks::answer;
+use looks::answer::Answer;
+use looks::answer::Answered;
 use script::bytes;
 use script::word;
 use state::State;

@@ -1,9 +1,9 @@
 // What a script may damage: a byte of the ring, and each number of the state.
-use crate::answer;
-use crate::answer::Answer;
-use crate::answer::Answered;
 use command::Setting;
 use layout::Ring;
+use looks::answer;
+use looks::answer::Answer;
+use looks::answer::Answered;
 use state::Listed;
 use state::PINS;
 use state::Pin;

@@ -1,15 +1,12 @@
 // The bench: reads a script of calls, makes them, and prints what they answer (docs/SCRIPT.md). The program is thin: lines are told by
 // `script` and `command`, and every call is the library's.
-mod answer;
 mod call;
 mod damage;
-mod look;
-mod output;
 mod reading;
 mod run;
-mod show;
 
 use call::LONGEST;
+use looks::output;
 
 const LONGEST_LINE: usize = 300000;
 

@@ -1,9 +1,9 @@
 // Reading a script to its end, and running each of its lines.
-use crate::output;
 use crate::run;
 use crate::run::Bench;
 use layout::Ring;
 use libc::STDIN_FILENO;
+use looks::output;
 use script::line;
 use state::Listed;
 use state::PINS;

@@ -1,13 +1,13 @@
 // Running one line of a script on the ring, the state and the buffer.
-use crate::answer;
-use crate::answer::Answer;
-use crate::answer::Answered;
 use crate::call;
 use crate::damage;
-use crate::look;
 use command::Call;
 use command::Command;
 use command::Look;
+use looks::answer;
+use looks::answer::Answer;
+use looks::answer::Answered;
+use looks::look;
 use script::line;
 use state::State;
 

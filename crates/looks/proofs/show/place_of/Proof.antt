@@ -1,8 +1,8 @@
 -- `bench::show::place_of` is safe and ends: i stays within the letters.
 use Prim.Native.Nat.{_-_, _≤_}
 use borrow.Author.Needs.{needs}
-use Rattle.bench.proofs.show.place_of.Statement.{statement}
-use Rattle.bench.proofs.show.place_of.Tie as tie
+use Rattle.looks.proofs.show.place_of.Statement.{statement}
+use Rattle.looks.proofs.show.place_of.Tie as tie
 
 abbrev Inv-loop : tie.InvT-loop
 Inv-loop node legend i₀ i = i ≤ 52

@@ -1,16 +1,16 @@
--- `bench::look::say_listed` is safe and ends: i stays within the listed writes, and the output keeps its room.
+-- `bench::output::say_bytes` is safe and ends: i stays within the bytes, and the output keeps its room.
 use Prim.Native.Nat.{_-_, _≤_}
 use mathlib.Core.Path.{_≡_}
 use lib.ListN.{length}
 use borrow.Author.Needs.{needs}
-use Rattle.bench.proofs.look.say_listed.Statement.{statement}
-use Rattle.bench.proofs.look.say_listed.Tie as tie
+use Rattle.looks.proofs.output.say_bytes.Statement.{statement}
+use Rattle.looks.proofs.output.say_bytes.Tie as tie
 
 abbrev Inv-loop : tie.InvT-loop
-Inv-loop out₀ at count writes to₀ i₀ out to i = (i ≤ 254) × (length out ≡ length out₀)
+Inv-loop out₀ at bytes to₀ i₀ out to i = (i ≤ length bytes) × (length out ≡ length out₀)
 
 abbrev μ-loop : tie.MeasureT-loop
-μ-loop out₀ at count writes to₀ i₀ out to i = 254 - i
+μ-loop out₀ at bytes to₀ i₀ out to i = length bytes - i
 
 slice-aggregate-say : tie.Need-slice-aggregate-say Inv-loop μ-loop
 slice-aggregate-say c = search needs
@@ -18,23 +18,20 @@ slice-aggregate-say c = search needs
 say-requires : tie.Need-say-requires Inv-loop μ-loop
 say-requires c κs = search needs
 
-loop-holds : tie.Need-loop-holds Inv-loop μ-loop
-loop-holds c = search needs
-
 same-length : tie.Need-same-length Inv-loop μ-loop
 same-length c = search needs
 
 returns : tie.Need-returns Inv-loop μ-loop
 returns c = search needs
 
-mul-one : tie.Need-mul-one Inv-loop μ-loop
-mul-one c = search needs
+loop-holds : tie.Need-loop-holds Inv-loop μ-loop
+loop-holds c = search needs
 
-array-copy-out-one : tie.Need-array-copy-out-one Inv-loop μ-loop
-array-copy-out-one c = search needs
+shared-slice-read-say-byte : tie.Need-shared-slice-read-say-byte Inv-loop μ-loop
+shared-slice-read-say-byte c = search needs
 
-say-one-requires : tie.Need-say-one-requires Inv-loop μ-loop
-say-one-requires c κs = search needs
+say-byte-requires : tie.Need-say-byte-requires Inv-loop μ-loop
+say-byte-requires c κs = search needs
 
 add-i : tie.Need-add-i Inv-loop μ-loop
 add-i c = search needs
@@ -51,20 +48,19 @@ same-length-2 c = search needs
 returns-2 : tie.Need-returns-2 Inv-loop μ-loop
 returns-2 c = search needs
 
-pub say-listed-spec : {M : Type 1} → statement M
-say-listed-spec =
+pub say-bytes-spec : {M : Type 1} → statement M
+say-bytes-spec =
     tie.close
     (tie.spec
     Inv-loop
     μ-loop
     slice-aggregate-say
     say-requires
-    loop-holds
     same-length
     returns
-    mul-one
-    array-copy-out-one
-    say-one-requires
+    loop-holds
+    shared-slice-read-say-byte
+    say-byte-requires
     add-i
     loop-less
     loop-again

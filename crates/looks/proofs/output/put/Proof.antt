@@ -1,16 +1,18 @@
--- `bench::show::say_legend` is safe and ends: i stays within the letters, and the output keeps its room.
+-- `bench::output::put` is safe and ends: i stays within the text, and the buffer keeps its length.
 use Prim.Native.Nat.{_-_, _≤_}
 use mathlib.Core.Path.{_≡_}
+use native.Mathlib.Omega.{arith}
 use lib.ListN.{length}
 use borrow.Author.Needs.{needs}
-use Rattle.bench.proofs.show.say_legend.Statement.{statement}
-use Rattle.bench.proofs.show.say_legend.Tie as tie
+use lib.ListN.{length-set}
+use Rattle.looks.proofs.output.put.Statement.{statement}
+use Rattle.looks.proofs.output.put.Tie as tie
 
 abbrev Inv-loop : tie.InvT-loop
-Inv-loop out₀ at legend to₀ i₀ out to i = (i ≤ 52) × (length out ≡ length out₀)
+Inv-loop out₀ at text to₀ i₀ out to i = (i ≤ length text) × (length out ≡ length out₀)
 
 abbrev μ-loop : tie.MeasureT-loop
-μ-loop out₀ at legend to₀ i₀ out to i = 52 - i
+μ-loop out₀ at text to₀ i₀ out to i = length text - i
 
 loop-holds : tie.Need-loop-holds Inv-loop μ-loop
 loop-holds c = search needs
@@ -21,14 +23,14 @@ same-length c = search needs
 returns : tie.Need-returns Inv-loop μ-loop
 returns c = search needs
 
-mul-say-node : tie.Need-mul-say-node Inv-loop μ-loop
-mul-say-node c = search needs
+shared-slice-read-out : tie.Need-shared-slice-read-out Inv-loop μ-loop
+shared-slice-read-out c = search needs
 
-element-copy-out-say-node : tie.Need-element-copy-out-say-node Inv-loop μ-loop
-element-copy-out-say-node c = search needs
+slice-write-out : tie.Need-slice-write-out Inv-loop μ-loop
+slice-write-out c = search needs
 
-say-node-requires : tie.Need-say-node-requires Inv-loop μ-loop
-say-node-requires c κs = search needs
+add-to : tie.Need-add-to Inv-loop μ-loop
+add-to c = search needs
 
 add-i : tie.Need-add-i Inv-loop μ-loop
 add-i c = search needs
@@ -37,7 +39,7 @@ loop-less : tie.Need-loop-less Inv-loop μ-loop
 loop-less c = search needs
 
 loop-again : tie.Need-loop-again Inv-loop μ-loop
-loop-again c = search needs
+loop-again c = (omega arith, simp length-set (omega arith))
 
 same-length-2 : tie.Need-same-length-2 Inv-loop μ-loop
 same-length-2 c = search needs
@@ -45,8 +47,8 @@ same-length-2 c = search needs
 returns-2 : tie.Need-returns-2 Inv-loop μ-loop
 returns-2 c = search needs
 
-pub say-legend-spec : {M : Type 1} → statement M
-say-legend-spec =
+pub put-spec : {M : Type 1} → statement M
+put-spec =
     tie.close
     (tie.spec
     Inv-loop
@@ -54,9 +56,9 @@ say-legend-spec =
     loop-holds
     same-length
     returns
-    mul-say-node
-    element-copy-out-say-node
-    say-node-requires
+    shared-slice-read-out
+    slice-write-out
+    add-to
     add-i
     loop-less
     loop-again

@@ -3,8 +3,8 @@ use Prim.Native.Nat.{_-_, _≤_}
 use mathlib.Core.Path.{_≡_}
 use lib.ListN.{length}
 use borrow.Author.Needs.{needs}
-use Rattle.bench.proofs.show.mark_one.Statement.{statement}
-use Rattle.bench.proofs.show.mark_one.Tie as tie
+use Rattle.looks.proofs.show.mark_one.Statement.{statement}
+use Rattle.looks.proofs.show.mark_one.Tie as tie
 
 abbrev Inv-loop : tie.InvT-loop
 Inv-loop letters₀ signs₀ n letter sign slots slot₀ k₀ letters signs slot k = (k ≤ slots) × (length letters ≡ length letters₀) × (length signs ≡ length signs₀)

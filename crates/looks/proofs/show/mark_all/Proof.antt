@@ -3,8 +3,8 @@ use Prim.Native.Nat.{_-_, _≤_}
 use mathlib.Core.Path.{_≡_}
 use lib.ListN.{length}
 use borrow.Author.Needs.{needs}
-use Rattle.bench.proofs.show.mark_all.Statement.{statement}
-use Rattle.bench.proofs.show.mark_all.Tie as tie
+use Rattle.looks.proofs.show.mark_all.Statement.{statement}
+use Rattle.looks.proofs.show.mark_all.Tie as tie
 
 abbrev Inv-loop : tie.InvT-loop
 Inv-loop letters₀ signs₀ n count legend held i₀ letters signs i = (i ≤ 254) × (length letters ≡ length letters₀) × (length signs ≡ length signs₀)

@@ -3,8 +3,8 @@ use Prim.Native.Nat.{_-_, _≤_}
 use mathlib.Core.Path.{_≡_}
 use lib.ListN.{length}
 use borrow.Author.Needs.{needs}
-use Rattle.bench.proofs.show.say_cells.Statement.{statement}
-use Rattle.bench.proofs.show.say_cells.Tie as tie
+use Rattle.looks.proofs.show.say_cells.Statement.{statement}
+use Rattle.looks.proofs.show.say_cells.Tie as tie
 
 abbrev Inv-loop : tie.InvT-loop
 Inv-loop out₀ at letters signs n to₀ slot₀ t8 out to slot = (slot ≤ n) × (length out ≡ length out₀)

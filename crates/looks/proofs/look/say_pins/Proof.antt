@@ -1,16 +1,22 @@
--- `bench::show::say_pins` is safe and ends: i stays within the pins, and the output keeps its room.
+-- `bench::look::say_pins` is safe and ends: i stays within the pins, and the output keeps its room.
 use Prim.Native.Nat.{_-_, _≤_}
 use mathlib.Core.Path.{_≡_}
 use lib.ListN.{length}
 use borrow.Author.Needs.{needs}
-use Rattle.bench.proofs.show.say_pins.Statement.{statement}
-use Rattle.bench.proofs.show.say_pins.Tie as tie
+use Rattle.looks.proofs.look.say_pins.Statement.{statement}
+use Rattle.looks.proofs.look.say_pins.Tie as tie
 
 abbrev Inv-loop : tie.InvT-loop
 Inv-loop out₀ at pins to₀ i₀ out to i = (i ≤ 16) × (length out ≡ length out₀)
 
 abbrev μ-loop : tie.MeasureT-loop
 μ-loop out₀ at pins to₀ i₀ out to i = 16 - i
+
+slice-aggregate-say : tie.Need-slice-aggregate-say Inv-loop μ-loop
+slice-aggregate-say c = search needs
+
+say-requires : tie.Need-say-requires Inv-loop μ-loop
+say-requires c κs = search needs
 
 loop-holds : tie.Need-loop-holds Inv-loop μ-loop
 loop-holds c = search needs
@@ -45,6 +51,8 @@ say-pins-spec =
     (tie.spec
     Inv-loop
     μ-loop
+    slice-aggregate-say
+    say-requires
     loop-holds
     mul-pin
     array-copy-out-pin

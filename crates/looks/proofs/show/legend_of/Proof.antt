@@ -1,8 +1,8 @@
 -- `bench::show::legend_of` is safe and ends: i stays within the held writes.
 use Prim.Native.Nat.{_-_, _≤_}
 use borrow.Author.Needs.{needs}
-use Rattle.bench.proofs.show.legend_of.Statement.{statement}
-use Rattle.bench.proofs.show.legend_of.Tie as tie
+use Rattle.looks.proofs.show.legend_of.Statement.{statement}
+use Rattle.looks.proofs.show.legend_of.Tie as tie
 
 abbrev Inv-loop : tie.InvT-loop
 Inv-loop count held legend₀ i₀ legend i = i ≤ 254
