@@ -6,7 +6,7 @@ use mathlib.Core.List.{List, [], _∷_, _++_, append-assoc, append-nil}
 use native.Mathlib.Omega.{arith}
 use native.Mathlib.Numerals.{add-one}
 use borrow.Author.Tests.{lt-ltb}
-use lib.ListN.{length, take, drop, getD, set, length-append, length-take}
+use lib.ListN.{length, take, drop, getD, set, length-append}
 use lib.Seq.{take-suc, take-at, drop-cons, set-at}
 use Rattle.layout.specs.declared.Ring.{Ring}
 use Rattle.layout.proofs.Tests.{both-left}
@@ -15,11 +15,11 @@ use Rattle.state.specs.Lists.{pick, noHeld, those}
 use Rattle.state.specs.Asks.{endOf}
 use Rattle.state.proofs.Bools.{both-intro}
 use Rattle.state.proofs.Those.{those-append}
-use Rattle.shore.specs.Cover.{byteOver}
 use Rattle.rules.specs.Fill.{isOf, writesFor}
 use Rattle.fill.specs.declared.Near.{Near}
 use Rattle.fill.specs.Overlay.{isOver, isNear, inFront, nearOf, overlaid}
 use Rattle.fill.proofs.Seeking.{over-inside, byte-those}
+use Rattle.fill.proofs.Overlaying.{over-same}
 
 -- ---- the pass: those of the first i that pass the test stand in front, and behind them what stood there
 
@@ -92,15 +92,6 @@ module _ (q : Held → Bool) (l : List Held) (n : ℕ) where
         let s : out ≡ those q (take n l) ++ drop many l = k .standing ∙ ap (λ j. those q (take j l) ++ drop many l) z in
         rw (s, c)
 
--- at most as many as there are
-those-few : (q : Held → Bool) (hs : List Held) → length (those q hs) ≤ length hs
-those-few q [] = omega arith
-those-few q (h ∷ hs) = at (q h) (those-few q hs)
-  where
-    at : (b : Bool) → length (those q hs) ≤ length hs → length (pick b (h ∷ those q hs) (those q hs)) ≤ suc (length hs)
-    at true k = omega arith
-    at false k = omega arith
-
 -- ---- a write that is over a place of the part is among those chosen, so no other decides a byte of it
 
 module _ (node from end : ℕ) where
@@ -111,28 +102,10 @@ module _ (node from end : ℕ) where
       let m = k .1 in
       both-intro _ _ (both-left (isOf node h) _ e) (both-intro _ _ (lt-ltb (h .entry .offset) end (omega arith)) (lt-ltb from (endOf h) (omega arith)))
 
-  near-over : (r : List ℕ) (g : Ring) (hs : List Held) (p : ℕ) (bs : List ℕ) → from ≤ p → p + length bs ≤ end
-      → overlaid (writesFor node r g (those (isNear node from end) hs)) p bs ≡ overlaid (writesFor node r g hs) p bs
-  unfolding overlaid
-  near-over r g hs p [] a b = refl
-  near-over r g hs p (x ∷ bs) a b =
-      let k : p + suc (length bs) ≤ end = b in
-      ap (λ y. y ∷ overlaid (writesFor node r g (those (isNear node from end) hs)) (suc p) bs) (byte-those node r g p (isNear node from end) (over-near p a (omega arith)) x hs)
-      ∙ ap (_∷_ (byteOver p x (writesFor node r g hs))) (near-over r g hs (suc p) bs (omega arith) (omega arith))
-
-  -- the same of what the code was handed
-  module _ (held : List Held) (count : ℕ) (n : Near) (e : n ≡ nearOf node from end held count) where
-    pub near-few : n .count ≤ count
-    near-few =
-        let u = ap (λ m. m .count) e in
-        let v = those-few (isNear node from end) (take count held) in
-        let w = length-take count held in
-        omega arith
-
-    pub near-same : (r : List ℕ) (g : Ring) (bs : List ℕ) → from + length bs ≤ end
-        → overlaid (writesFor node r g (take (n .count) (n .held))) from bs ≡ overlaid (writesFor node r g (take count held)) from bs
-    near-same r g bs h =
-        let hs : List Held = those (isNear node from end) (take count held) in
-        ap (λ m. overlaid (writesFor node r g (take (m .count) (m .held))) from bs) e
-        ∙ ap (λ ks. overlaid (writesFor node r g ks) from bs) (take-at hs (drop (length hs) held) (length hs) refl)
-        ∙ near-over r g (take count held) from bs (omega arith) h
+  pub near-same : (held : List Held) (count : ℕ) (n : Near) → n ≡ nearOf node from end held count → (r : List ℕ) (g : Ring) (bs : List ℕ) → from + length bs ≤ end
+      → overlaid (writesFor node r g (take (n .count) (n .held))) from bs ≡ overlaid (writesFor node r g (take count held)) from bs
+  near-same held count n e r g bs h =
+      let hs : List Held = those (isNear node from end) (take count held) in
+      ap (λ m. overlaid (writesFor node r g (take (m .count) (m .held))) from bs) e
+      ∙ ap (λ ks. overlaid (writesFor node r g ks) from bs) (take-at hs (drop (length hs) held) (length hs) refl)
+      ∙ over-same _ _ from bs (λ p b u v. byte-those node r g p (isNear node from end) (over-near p u (omega arith)) b (take count held))

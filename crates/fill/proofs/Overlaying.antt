@@ -1,4 +1,4 @@
--- Bytes laid over: the loop over the bytes of a part, and the parts of a fill's buffer. Document 01, "Moves", paragraph "Fill".
+-- Bytes laid over: the loops over the bytes and over the blocks of a part, and the parts of a fill's buffer. Document 01, "Moves", paragraph "Fill".
 use Prim.Native.Nat.{ℕ, zero, suc, _+_, _-_, _≤_, _<_}
 use mathlib.Core.Path.{_≡_, refl, sym, ap, _∙_}
 use mathlib.Core.List.{List, [], _∷_, _++_, append-assoc, append-nil}
@@ -24,6 +24,16 @@ pub blank-bytes : (p n : ℕ) → bytesAt blank p n ≡ replicate n 0
 unfolding bytesAt
 blank-bytes p zero = refl
 blank-bytes p (suc n) = ap (_∷_ 0) (blank-bytes (suc p) n)
+
+-- ---- bytes laid over
+
+-- other writes lay the same where each place has the same byte
+pub over-same : (ws vs : List Write) (p : ℕ) (bs : List ℕ) → ((q b : ℕ) → p ≤ q → q < p + length bs → byteOver q b ws ≡ byteOver q b vs) → overlaid ws p bs ≡ overlaid vs p bs
+unfolding overlaid
+over-same ws vs p [] k = refl
+over-same ws vs p (b ∷ bs) k =
+    ap (λ x. x ∷ overlaid ws (suc p) bs) (k p b (omega arith) (omega arith))
+    ∙ ap (_∷_ (byteOver p b vs)) (over-same ws vs (suc p) bs (λ q c h l. k q c (omega arith) (omega arith)))
 
 module _ (ws : List Write) where
   over-length : (p : ℕ) (bs : List ℕ) → length (overlaid ws p bs) ≡ length bs
@@ -83,14 +93,14 @@ module _ (ws : List Write) where
           let z : e ≡ k + (e - k) = omega arith in
           let cut : take e out₀ ≡ take k out₀ ++ take (e - k) (drop k out₀) = ap (λ n. take n out₀) z ∙ take-add k (e - k) out₀ in
           let w : ys ≡ overlaid ws (from + k) (take (e - k) (drop k out₀)) = y ∙ ap (λ d. overlaid ws (from + k) (take (e - k) d)) rest in
-          let both : overlaid ws from (take e out₀) ≡ front ++ ys = ap (overlaid ws from) cut ∙ more (take (e - k) (drop k out₀)) ∙ ap (_++_ front) (sym w) in
+          let whole : overlaid ws from (take e out₀) ≡ front ++ ys = ap (overlaid ws from) cut ∙ more (take (e - k) (drop k out₀)) ∙ ap (_++_ front) (sym w) in
           record {
             upto = l;
             same = same-len-mid k (e - k) out ys (ap length y ∙ over-length (from + k) (midOf k (e - k) out)) ∙ o .same;
             front =
                 ap (λ f. f ++ (ys ++ postOf k (e - k) out)) (ap (take k) (o .front) ∙ take-at front (drop k out₀) k long)
                 ∙ ap (λ d. front ++ (ys ++ drop (e - k) d)) rest ∙ ap (λ d. front ++ (ys ++ d)) (post-is k e out₀ h)
-                ∙ sym (append-assoc front ys (drop e out₀)) ∙ ap (λ f. f ++ drop e out₀) (sym both);
+                ∙ sym (append-assoc front ys (drop e out₀)) ∙ ap (λ f. f ++ drop e out₀) (sym whole);
           }
 
       pub lay-done : length out₀ ≤ k → out ≡ overlaid ws from out₀

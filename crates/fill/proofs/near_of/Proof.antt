@@ -50,7 +50,7 @@ loop-again c =
     ⊎-elim (λ w. choose-yes _ _ _ _ _ _ k h _ _ (j ∙ w .0 .taken) (w .1) (w .2)) (λ w. choose-no _ _ _ _ _ _ k h _ _ (j ∙ w .0 .left) (w .1) (w .2)) (c .if1 .came)
 
 returns : tie.Need-returns Inv-loop μ-loop
-returns c = choose-end _ _ _ _ _ _ (c .before .loop .inv) (c .loop-test .left)
+returns c = (choose-end _ _ _ _ _ _ (c .before .loop .inv) (c .loop-test .left), omega arith)
 
 pub near-of-spec : {M : Type 1} → statement M
 near-of-spec =

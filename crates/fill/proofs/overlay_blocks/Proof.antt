@@ -1,13 +1,12 @@
 -- `fill::overlay_blocks` meets its contract: `Laying`, as in `overlay`, a part at a time; in a part the near writes show what all do (`near-same`).
-use Prim.Native.Nat.{_+_, _-_, _≤_}
-use mathlib.Core.Path.{_≡_, _∙_}
+use Prim.Native.Nat.{_+_, _-_}
+use mathlib.Core.Path.{_∙_}
 use native.Mathlib.Omega.{arith}
-use borrow.Author.Needs.{needs}
 use borrow.Rule.Slice.PartMut.{midOf, mid-len}
 use lib.ListN.{length, take}
 use Rattle.rules.specs.Fill.{writesFor}
 use Rattle.fill.proofs.Overlaying.{Laying, lay-start, lay-part, lay-done}
-use Rattle.fill.proofs.Nearing.{near-few, near-same}
+use Rattle.fill.proofs.Nearing.{near-same}
 use Rattle.fill.proofs.overlay_blocks.Statement.{statement}
 use Rattle.fill.proofs.overlay_blocks.Tie as tie
 
@@ -46,10 +45,8 @@ part-overlay-end c = omega arith
 
 overlay-requires : tie.Need-overlay-requires Inv-loop μ-loop
 overlay-requires c κs =
-    let a = c .before .before .before .before .before .before .before .before .args in
     let l = c .before .before .before .before .before .loop in
     let s = l .inv .same in
-    let few = near-few (a .node) (a .from + l .k) _ (a .held) (a .count) _ (c .before .before .near-of .ensures) in
     let part = mid-len (l .k) (c .before .before .before .block-end .result) (l .out) (omega arith) in
     (c .before .before .before .before .before .before .before .before .pre .0, (omega arith, omega arith))
 
@@ -63,7 +60,7 @@ loop-again c =
     let s = l .inv .same in
     let e = c .before .before .before .before .before .before .block-end .result in
     let part = mid-len (l .k) e (l .out) (omega arith) in
-    lay-part _ _ _ _ _ (l .inv) e _ (omega arith) (omega arith) (c .before .before .overlay .ensures ∙ near-same (a .node) (a .from + l .k) (a .from + e) (a .held) (a .count) _ (c .before .before .before .before .before .near-of .ensures) (a .bytes .now) (a .ring) (midOf (l .k) (e - l .k) (l .out)) (omega arith))
+    lay-part _ _ _ _ _ (l .inv) e _ (omega arith) (omega arith) (c .before .before .overlay .ensures ∙ near-same (a .node) (a .from + l .k) (a .from + e) (a .held) (a .count) _ (c .before .before .before .before .before .near-of .ensures .0) (a .bytes .now) (a .ring) (midOf (l .k) (e - l .k) (l .out)) (omega arith))
 
 same-length : tie.Need-same-length Inv-loop μ-loop
 same-length c = c .before .loop .inv .same
