@@ -1,4 +1,4 @@
--- Bytes laid over: the loop over the bytes of a part, and the parts of a fill's buffer. Document 01, "Moves", paragraph "Fill".
+-- Bytes laid over: the loops over the bytes and over the blocks of a part, and the parts of a fill's buffer. Document 01, "Moves", paragraph "Fill".
 use Prim.Native.Nat.{ℕ, zero, suc, _+_, _-_, _≤_, _<_}
 use mathlib.Core.Path.{_≡_, refl, sym, ap, _∙_}
 use mathlib.Core.List.{List, [], _∷_, _++_, append-assoc, append-nil}
@@ -6,9 +6,9 @@ use native.Mathlib.Nat.{add-zero, add-suc, suc-add, sub-zero, le-of-suc-le-suc}
 use native.Mathlib.Numerals.{add-one}
 use native.Mathlib.Omega.{arith}
 use borrow.Author.Tests.{lt-ltb, le-ltb}
-use borrow.Rule.Slice.PartMut.{midOf, postOf, putMid, post-is, mid-len}
+use borrow.Rule.Slice.PartMut.{midOf, postOf, putMid, same-len-mid, post-is, mid-len}
 use lib.ListN.{length, take, drop, getD, set, replicate, length-set, length-append, length-drop}
-use lib.Seq.{take-suc, take-at, take-length, drop-at, drop-cons, drop-length, set-at, getD-at, length-take-le}
+use lib.Seq.{take-suc, take-add, take-at, take-length, drop-at, drop-cons, drop-length, set-at, getD-at, length-take-le}
 use Rattle.layout.specs.Bytes.{bytesAt}
 use Rattle.walk.specs.Walk.{Write}
 use Rattle.shore.specs.Cover.{byteOver}
@@ -25,16 +25,26 @@ unfolding bytesAt
 blank-bytes p zero = refl
 blank-bytes p (suc n) = ap (_∷_ 0) (blank-bytes (suc p) n)
 
+-- ---- bytes laid over
+
+-- other writes lay the same where each place has the same byte
+pub over-same : (ws vs : List Write) (p : ℕ) (bs : List ℕ) → ((q b : ℕ) → p ≤ q → q < p + length bs → byteOver q b ws ≡ byteOver q b vs) → overlaid ws p bs ≡ overlaid vs p bs
+unfolding overlaid
+over-same ws vs p [] k = refl
+over-same ws vs p (b ∷ bs) k =
+    ap (λ x. x ∷ overlaid ws (suc p) bs) (k p b (omega arith) (omega arith))
+    ∙ ap (_∷_ (byteOver p b vs)) (over-same ws vs (suc p) bs (λ q c h l. k q c (omega arith) (omega arith)))
+
 module _ (ws : List Write) where
   over-length : (p : ℕ) (bs : List ℕ) → length (overlaid ws p bs) ≡ length bs
   unfolding overlaid
   over-length p [] = refl
   over-length p (b ∷ bs) = ap suc (over-length (suc p) bs)
 
-  over-snoc : (p : ℕ) (bs : List ℕ) (b : ℕ) → overlaid ws p (bs ++ b ∷ []) ≡ overlaid ws p bs ++ byteOver (p + length bs) b ws ∷ []
+  over-append : (p : ℕ) (bs cs : List ℕ) → overlaid ws p (bs ++ cs) ≡ overlaid ws p bs ++ overlaid ws (p + length bs) cs
   unfolding overlaid
-  over-snoc p [] b = rw add-zero
-  over-snoc p (a ∷ bs) b = ap (_∷_ (byteOver p a ws)) (over-snoc (suc p) bs b ∙ rw (suc-add, add-suc))
+  over-append p [] cs = rw add-zero
+  over-append p (b ∷ bs) cs = ap (_∷_ (byteOver p b ws)) (over-append (suc p) bs cs ∙ rw (suc-add, add-suc))
 
   -- ---- the loop: the front is laid over, the rest is as it was
 
@@ -55,14 +65,16 @@ module _ (ws : List Write) where
       lay-read : k < length out₀ → getD out k 0 ≡ getD out₀ k 0
       lay-read h = rw (o .front, drop-cons out₀ k 0) (getD-at (overlaid ws from (take k out₀)) (getD out₀ k 0) (drop (suc k) out₀) 0 k long)
 
+      more : (bs : List ℕ) → overlaid ws from (take k out₀ ++ bs) ≡ overlaid ws from (take k out₀) ++ overlaid ws (from + k) bs
+      more bs = over-append from (take k out₀) bs ∙ ap (λ n. overlaid ws from (take k out₀) ++ overlaid ws (from + n) bs) (length-take-le k out₀ (o .upto))
+
       -- b is what the search found over the byte that stood there
       pub lay-next : (b : ℕ) → k < length out₀ → b ≡ byteOver (from + k) (getD out k 0) ws → Laying from out₀ (set out k b) (k + 1)
+      unfolding overlaid
       lay-next b h e =
           let u : b ≡ byteOver (from + k) (getD out₀ k 0) ws = e ∙ ap (λ x. byteOver (from + k) x ws) (lay-read h) in
-          let t : length (take k out₀) ≡ k = length-take-le k out₀ (o .upto) in
-          let more : overlaid ws from (take (suc k) out₀) ≡ overlaid ws from (take k out₀) ++ b ∷ [] =
-          ap (overlaid ws from) (take-suc out₀ k 0 h) ∙ over-snoc from (take k out₀) (getD out₀ k 0)
-          ∙ ap (λ n. overlaid ws from (take k out₀) ++ byteOver (from + n) (getD out₀ k 0) ws ∷ []) t ∙ ap (λ x. overlaid ws from (take k out₀) ++ x ∷ []) (sym u) in
+          let one : overlaid ws from (take (suc k) out₀) ≡ overlaid ws from (take k out₀) ++ b ∷ [] =
+          ap (overlaid ws from) (take-suc out₀ k 0 h) ∙ more (getD out₀ k 0 ∷ []) ∙ ap (λ x. overlaid ws from (take k out₀) ++ x ∷ []) (sym u) in
           record {
             upto = omega arith;
             same = length-set out k b ∙ o .same;
@@ -70,7 +82,25 @@ module _ (ws : List Write) where
                 ap (λ l. set l k b) (o .front ∙ ap (_++_ (overlaid ws from (take k out₀))) (drop-cons out₀ k 0 h))
                 ∙ set-at (overlaid ws from (take k out₀)) (getD out₀ k 0) (drop (suc k) out₀) b k long
                 ∙ sym (append-assoc (overlaid ws from (take k out₀)) (b ∷ []) (drop (suc k) out₀))
-                ∙ ap (_++ drop (suc k) out₀) (sym more) ∙ rw add-one;
+                ∙ ap (_++ drop (suc k) out₀) (sym one) ∙ rw add-one;
+          }
+
+      -- ys came back in the part from k up to e that was lent on
+      pub lay-part : (e : ℕ) (ys : List ℕ) → k ≤ e → e ≤ length out₀ → ys ≡ overlaid ws (from + k) (midOf k (e - k) out) → Laying from out₀ (putMid k (e - k) out ys) e
+      lay-part e ys h l y =
+          let front : List ℕ = overlaid ws from (take k out₀) in
+          let rest : drop k out ≡ drop k out₀ = ap (drop k) (o .front) ∙ drop-at front (drop k out₀) k long in
+          let z : e ≡ k + (e - k) = omega arith in
+          let cut : take e out₀ ≡ take k out₀ ++ take (e - k) (drop k out₀) = ap (λ n. take n out₀) z ∙ take-add k (e - k) out₀ in
+          let w : ys ≡ overlaid ws (from + k) (take (e - k) (drop k out₀)) = y ∙ ap (λ d. overlaid ws (from + k) (take (e - k) d)) rest in
+          let whole : overlaid ws from (take e out₀) ≡ front ++ ys = ap (overlaid ws from) cut ∙ more (take (e - k) (drop k out₀)) ∙ ap (_++_ front) (sym w) in
+          record {
+            upto = l;
+            same = same-len-mid k (e - k) out ys (ap length y ∙ over-length (from + k) (midOf k (e - k) out)) ∙ o .same;
+            front =
+                ap (λ f. f ++ (ys ++ postOf k (e - k) out)) (ap (take k) (o .front) ∙ take-at front (drop k out₀) k long)
+                ∙ ap (λ d. front ++ (ys ++ drop (e - k) d)) rest ∙ ap (λ d. front ++ (ys ++ d)) (post-is k e out₀ h)
+                ∙ sym (append-assoc front ys (drop e out₀)) ∙ ap (λ f. f ++ drop e out₀) (sym whole);
           }
 
       pub lay-done : length out₀ ≤ k → out ≡ overlaid ws from out₀

@@ -1,5 +1,6 @@
 // Filling a read. Document 01, "Moves", paragraph "Fill"; refusals 8, 12, 1, 3, 9 and 11 of "When the box says no".
-// Costs one walk for the judge; then for each byte before r a search over the held writes, newest first.
+// Costs one walk for the judge; then for each block of bytes before r one pass over the held writes, and for each byte a search over those that
+// touch its block, newest first.
 use judge::Verdict;
 use layout::Ring;
 use reason::Reason;
@@ -9,7 +10,7 @@ use state::Pin;
 use state::State;
 ghost use mathlib.Core.Path.{_≡_};
 ghost use mathlib.Core.List.{[]};
-ghost use Prim.Native.Nat.{_+_, _≤_};
+ghost use Prim.Native.Nat.{_+_, _≤_, _<_};
 ghost use lib.ListN.{length, take, replicate};
 ghost use lib.Dec.{ltb};
 ghost use Rattle.layout.specs.Sizes.{mostEntries, fileEnd};
@@ -22,7 +23,7 @@ ghost use Rattle.rules.specs.Refusals.{own};
 ghost use Rattle.rules.specs.Known.{Known};
 ghost use Rattle.rules.specs.Outcome.{outcome, lentBy};
 ghost use Rattle.fill.specs.Answers.{saidFill, mayOf};
-ghost use Rattle.fill.specs.Overlay.{isNamed, isOver, overlaid};
+ghost use Rattle.fill.specs.Overlay.{isNamed, isOver, isNear, nearOf, overlaid};
 
 // The count of bytes that the host may show.
 pub enum Filled {
@@ -38,6 +39,15 @@ enum May {
 
 // The longest buffer of a fill.
 pub const LONGEST: usize = 65536;
+
+// So many bytes are laid over at a time: 512 was quicker than 256 and 1,024. No byte depends on it.
+const BLOCK: usize = 512;
+
+// Writes chosen from those held: they stand in front, in order, and behind them what stood there.
+struct Near {
+    count: usize,
+    held: [Held; Ring::ENTRIES],
+}
 
 // ---- the refusals behind 8 and 12
 
@@ -149,6 +159,87 @@ fn overlay(
     }
 }
 
+// Whether a write is the node's and touches its file from a place up to an end.
+fn is_near(held: Held, node: u32, from: usize, end: usize) -> bool
+    ensures { λ r. ⌜ r ≡ isNear node from end held ⌝ }
+{
+    let entry = held.entry;
+    let start = entry.offset as usize;
+    let stop = start + entry.length as usize;
+    if entry.node != node {
+        return false;
+    }
+    if end <= start {
+        return false;
+    }
+    from < stop
+}
+
+// The node's writes that touch its file from a place up to an end.
+fn near_of(held: [Held; Ring::ENTRIES], count: usize, node: u32, from: usize, end: usize) -> Near
+    requires { ⌜ count ≤ mostEntries ⌝ }
+    ensures { λ r. ⌜ (r ≡ nearOf node from end held count) × (r .count ≤ count) ⌝ }
+{
+    let mut out = held;
+    let mut many: usize = 0;
+    let mut i: usize = 0;
+    while i < count {
+        let one = held[i];
+        if is_near(one, node, from, end) {
+            out[many] = one;
+            many += 1;
+        }
+        i += 1;
+    }
+    Near {
+        count: many,
+        held: out,
+    }
+}
+
+// Where the block that begins at k ends.
+fn block_end(k: usize, n: usize) -> usize
+    requires { ⌜ k < n ⌝ }
+    ensures { λ r. ⌜ (k < r) × (r ≤ n) ⌝ }
+{
+    if n - k <= BLOCK {
+        return n;
+    }
+    k + BLOCK
+}
+
+// The same as `overlay`, block by block: most held writes don't touch a block, and the search for its bytes passes over those no more.
+fn overlay_blocks(
+    bytes: &[u8],
+    ring: Ring,
+    held: [Held; Ring::ENTRIES],
+    count: usize,
+    node: u32,
+    from: usize,
+    out: &mut [u8],
+)
+    requires { ⌜ Sized (now bytes) (ring .n) ⌝ }
+    requires { ⌜ (count ≤ mostEntries) × (from + length (now out) ≤ fileEnd) ⌝ }
+    ensures { λ _. ⌜ now (out .exit) ≡ overlaid (writesFor node (now (bytes .entry)) ring (take count held)) from (now (out .entry)) ⌝ }
+{
+    let mut k: usize = 0;
+    while k < out.len() {
+        let end = block_end(k, out.len());
+        let near = near_of(held, count, node, from + k, from + end);
+        let chosen = near.held;
+        overlay(
+            bytes,
+            ring,
+            chosen,
+            near.count,
+            node,
+            from + k,
+            &mut out[k..end],
+        );
+        k = end;
+    }
+}
+
 // The bytes behind those that were fetched: zero where no write covers them.
 fn zero_and_overlay(
     bytes: &[u8],
@@ -168,7 +259,7 @@ fn zero_and_overlay(
         part[i] = 0;
         i += 1;
     }
-    overlay(bytes, ring, held, count, node, from, part);
+    overlay_blocks(bytes, ring, held, count, node, from, part);
 }
 
 // The count r: the greater of g and min(n, E - offset).
@@ -206,7 +297,7 @@ fn fill_bytes(
     requires { ⌜ (count ≤ mostEntries) × (g ≤ r) × (r ≤ length (now buffer)) × (from + length (now buffer) ≤ fileEnd) ⌝ }
     ensures { λ _. ⌜ now (buffer .exit) ≡ filled (writesFor node (now (bytes .entry)) ring (take count held)) from g r (now (buffer .entry)) ⌝ }
 {
-    overlay(bytes, ring, held, count, node, from, &mut buffer[0..g]);
+    overlay_blocks(bytes, ring, held, count, node, from, &mut buffer[0..g]);
     zero_and_overlay(bytes, ring, held, count, node, from + g, &mut buffer[g..r]);
 }
 

@@ -6,17 +6,17 @@ use Rattle.fill.proofs.Overlaying.{parts-back}
 use Rattle.fill.proofs.fill_bytes.Statement.{statement}
 use Rattle.fill.proofs.fill_bytes.Tie as tie
 
-sub-overlay : tie.Need-sub-overlay
-sub-overlay c = search needs
+sub-overlay-blocks : tie.Need-sub-overlay-blocks
+sub-overlay-blocks c = search needs
 
-part-overlay-start : tie.Need-part-overlay-start
-part-overlay-start c = search needs
+part-overlay-blocks-start : tie.Need-part-overlay-blocks-start
+part-overlay-blocks-start c = search needs
 
-part-overlay-end : tie.Need-part-overlay-end
-part-overlay-end c = search needs
+part-overlay-blocks-end : tie.Need-part-overlay-blocks-end
+part-overlay-blocks-end c = search needs
 
-overlay-requires : tie.Need-overlay-requires
-overlay-requires c κs = search needs
+overlay-blocks-requires : tie.Need-overlay-blocks-requires
+overlay-blocks-requires c κs = search needs
 
 add-zero-and-overlay : tie.Need-add-zero-and-overlay
 add-zero-and-overlay c = search needs
@@ -40,16 +40,16 @@ returns : tie.Need-returns
 returns c =
     let a = c .before .before .before .before .before .before .before .before .before .before .args in
     let p = c .before .before .before .before .before .before .before .before .before .before .pre .1 in
-    parts-back (writesFor (a .node) (a .bytes .now) (a .ring) (take (a .count) (a .held))) (a .from) (a .g) (a .r) (a .buffer .now) (p .1) (p .2) _ _ (c .before .before .before .before .before .before .overlay .ensures) (c .before .before .zero-and-overlay .ensures)
+    parts-back (writesFor (a .node) (a .bytes .now) (a .ring) (take (a .count) (a .held))) (a .from) (a .g) (a .r) (a .buffer .now) (p .1) (p .2) _ _ (c .before .before .before .before .before .before .overlay-blocks .ensures) (c .before .before .zero-and-overlay .ensures)
 
 pub fill-bytes-spec : {M : Type 1} → statement M
 fill-bytes-spec =
     tie.close
     (tie.spec
-    sub-overlay
-    part-overlay-start
-    part-overlay-end
-    overlay-requires
+    sub-overlay-blocks
+    part-overlay-blocks-start
+    part-overlay-blocks-end
+    overlay-blocks-requires
     add-zero-and-overlay
     sub-zero-and-overlay
     part-zero-and-overlay-start

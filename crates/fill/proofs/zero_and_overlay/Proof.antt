@@ -1,4 +1,4 @@
--- `fill::zero_and_overlay` meets its contract: `Taking`: the front of the part is zero; then `overlay`.
+-- `fill::zero_and_overlay` meets its contract: `Taking`: the front of the part is zero; then `overlay_blocks`.
 use Prim.Native.Nat.{_-_}
 use mathlib.Core.Path.{refl, ap, _∙_}
 use native.Mathlib.Omega.{arith}
@@ -31,8 +31,8 @@ loop-less c = omega arith
 loop-again : tie.Need-loop-again Inv-loop μ-loop
 loop-again c = take-next _ _ _ _ _ (c .before .loop .inv) _ (omega arith) refl
 
-overlay-requires : tie.Need-overlay-requires Inv-loop μ-loop
-overlay-requires c κs = (c .before .before .before .before .before .pre .0, (c .before .before .before .before .before .pre .1 .0, omega arith))
+overlay-blocks-requires : tie.Need-overlay-blocks-requires Inv-loop μ-loop
+overlay-blocks-requires c κs = (c .before .before .before .before .before .pre .0, (c .before .before .before .before .before .pre .1 .0, omega arith))
 
 same-length : tie.Need-same-length Inv-loop μ-loop
 same-length c = omega arith
@@ -41,7 +41,7 @@ returns : tie.Need-returns Inv-loop μ-loop
 returns c =
     let a = c .before .before .before .before .before .before .before .before .args in
     let l = c .before .before .before .before .before .loop in
-    c .before .before .overlay .ensures ∙ ap (overlaid (writesFor (a .node) (a .bytes .now) (a .ring) (take (a .count) (a .held))) (a .from)) (take-done _ _ _ _ _ (l .inv) (omega arith) ∙ blank-bytes 0 (length (a .part .now)))
+    c .before .before .overlay-blocks .ensures ∙ ap (overlaid (writesFor (a .node) (a .bytes .now) (a .ring) (take (a .count) (a .held))) (a .from)) (take-done _ _ _ _ _ (l .inv) (omega arith) ∙ blank-bytes 0 (length (a .part .now)))
 
 pub zero-and-overlay-spec : {M : Type 1} → statement M
 zero-and-overlay-spec =
@@ -54,6 +54,6 @@ zero-and-overlay-spec =
     add-i
     loop-less
     loop-again
-    overlay-requires
+    overlay-blocks-requires
     same-length
     returns)
