@@ -126,19 +126,33 @@ fn filled(answer: Filled) -> Answer
     }
 }
 
+// A number, with the state beside it.
+fn with_number(out: NumberedOut) -> Changed
+    ensures { λ o. ⌜ o ≡ record { state = out .state; answer = flat (saidNumber (out .answer)) } ⌝ }
+{
+    let state = out.state;
+    let said = out.answer;
+    let answer = numbered(said);
+    Changed { state, answer }
+}
+
+// "Done", with the state beside it.
+fn with_done(out: AckOut) -> Changed
+    ensures { λ o. ⌜ o ≡ record { state = out .state; answer = flat (saidDone (out .answer)) } ⌝ }
+{
+    let state = out.state;
+    let said = out.answer;
+    let answer = done(said);
+    Changed { state, answer }
+}
+
 // Makes an empty ring.
 #[no_mangle]
 pub extern "C" fn vibetorch_make(ring: &mut [u8], state: State) -> Changed
     ensures { λ o. ⌜ (o ≡ changedBy (outcome makeRing (now (ring .entry)) state)) × (now (ring .exit) ≡ outcome makeRing (now (ring .entry)) state .ring) ⌝ }
 {
     let out = calls::make(ring, state);
-    let next = out.state;
-    let answer = out.answer;
-    let flat = done(answer);
-    Changed {
-        state: next,
-        answer: flat,
-    }
+    with_done(out)
 }
 
 // Reopens a ring: a restart.
@@ -147,13 +161,7 @@ pub extern "C" fn vibetorch_reopen(ring: &[u8], state: State) -> Changed
     ensures { λ o. ⌜ o ≡ changedBy (outcome reopenRing (now (ring .entry)) state) ⌝ }
 {
     let out = calls::reopen(ring, state);
-    let next = out.state;
-    let answer = out.answer;
-    let flat = numbered(answer);
-    Changed {
-        state: next,
-        answer: flat,
-    }
+    with_number(out)
 }
 
 // Accepts a write.
@@ -169,13 +177,7 @@ pub extern "C" fn vibetorch_write(
     ensures { λ o. ⌜ (o ≡ changedBy (outcome (write node handle offset (now (bytes .entry))) (now (ring .entry)) state)) × (now (ring .exit) ≡ outcome (write node handle offset (now (bytes .entry))) (now (ring .entry)) state .ring) ⌝ }
 {
     let out = calls::write(ring, state, node, handle, offset, bytes);
-    let next = out.state;
-    let answer = out.answer;
-    let flat = numbered(answer);
-    Changed {
-        state: next,
-        answer: flat,
-    }
+    with_number(out)
 }
 
 // Pins a node, or all (node 0).
@@ -184,13 +186,7 @@ pub extern "C" fn vibetorch_pin(ring: &[u8], state: State, node: u32) -> Changed
     ensures { λ o. ⌜ o ≡ changedBy (outcome (pin node) (now (ring .entry)) state) ⌝ }
 {
     let out = calls::pin(ring, state, node);
-    let next = out.state;
-    let answer = out.answer;
-    let flat = numbered(answer);
-    Changed {
-        state: next,
-        answer: flat,
-    }
+    with_number(out)
 }
 
 // Ends a pin.
@@ -199,13 +195,7 @@ pub extern "C" fn vibetorch_unpin(ring: &mut [u8], state: State, number: u64) ->
     ensures { λ o. ⌜ (o ≡ changedBy (outcome (unpin number) (now (ring .entry)) state)) × (now (ring .exit) ≡ outcome (unpin number) (now (ring .entry)) state .ring) ⌝ }
 {
     let out = calls::unpin(ring, state, number);
-    let next = out.state;
-    let answer = out.answer;
-    let flat = done(answer);
-    Changed {
-        state: next,
-        answer: flat,
-    }
+    with_done(out)
 }
 
 // Fills a read over what was fetched from shore.
@@ -265,13 +255,7 @@ pub extern "C" fn vibetorch_report(
     ensures { λ o. ⌜ (o ≡ changedBy (outcome (report number good) (now (ring .entry)) state)) × (now (ring .exit) ≡ outcome (report number good) (now (ring .entry)) state .ring) ⌝ }
 {
     let out = calls::report(ring, state, number, good);
-    let next = out.state;
-    let answer = out.answer;
-    let flat = done(answer);
-    Changed {
-        state: next,
-        answer: flat,
-    }
+    with_done(out)
 }
 
 // Takes a ticket.
@@ -280,13 +264,7 @@ pub extern "C" fn vibetorch_take_ticket(ring: &[u8], state: State) -> Changed
     ensures { λ o. ⌜ o ≡ changedBy (outcome takeTicket (now (ring .entry)) state) ⌝ }
 {
     let out = calls::take_ticket(ring, state);
-    let next = out.state;
-    let answer = out.answer;
-    let flat = numbered(answer);
-    Changed {
-        state: next,
-        answer: flat,
-    }
+    with_number(out)
 }
 
 // Asks a ticket: 1 for done, 0 for not yet.

@@ -1,5 +1,6 @@
 -- `cabi::vibetorch_take_ticket` meets its contract: the call's own promise, flattened.
-use Rattle.cabi.proofs.Flattening.{same-changed}
+use mathlib.Core.Path.{ap, _∙_}
+use Rattle.cabi.specs.Flat.{changedBy}
 use borrow.Author.Needs.{needs}
 use Rattle.cabi.proofs.vibetorch_take_ticket.Statement.{statement}
 use Rattle.cabi.proofs.vibetorch_take_ticket.Tie as tie
@@ -7,11 +8,11 @@ use Rattle.cabi.proofs.vibetorch_take_ticket.Tie as tie
 take-ticket-requires : tie.Need-take-ticket-requires
 take-ticket-requires c κs = search needs
 
-numbered-requires : tie.Need-numbered-requires
-numbered-requires c κs = search needs
+with-number-requires : tie.Need-with-number-requires
+with-number-requires c κs = search needs
 
 returns : tie.Need-returns
-returns c = same-changed _ _ _ _ _ _ (c .before .before .take-ticket .ensures) (c .numbered .ensures)
+returns c = c .with-number .ensures ∙ ap changedBy (c .before .take-ticket .ensures)
 
 pub vibetorch-take-ticket-spec : {M : Type 1} → statement M
-vibetorch-take-ticket-spec = tie.close (tie.spec take-ticket-requires numbered-requires returns)
+vibetorch-take-ticket-spec = tie.close (tie.spec take-ticket-requires with-number-requires returns)

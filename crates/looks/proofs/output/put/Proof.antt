@@ -1,4 +1,4 @@
--- `bench::output::put` is safe and ends: i stays within the text, and the buffer keeps its length.
+-- `looks::output::put` is safe and ends: i stays within the text, and the buffer keeps its length.
 use Prim.Native.Nat.{_-_, _≤_}
 use mathlib.Core.Path.{_≡_}
 use native.Mathlib.Omega.{arith}

@@ -1,4 +1,4 @@
--- `bench::output::say_bytes` is safe and ends: i stays within the bytes, and the output keeps its room.
+-- `looks::output::say_bytes` is safe and ends: i stays within the bytes, and the output keeps its room.
 use Prim.Native.Nat.{_-_, _≤_}
 use mathlib.Core.Path.{_≡_}
 use lib.ListN.{length}

@@ -1,4 +1,4 @@
--- `bench::show::legend_of` is safe and ends: i stays within the held writes.
+-- `looks::show::legend_of` is safe and ends: i stays within the held writes.
 use Prim.Native.Nat.{_-_, _≤_}
 use borrow.Author.Needs.{needs}
 use Rattle.looks.proofs.show.legend_of.Statement.{statement}

@@ -1,4 +1,4 @@
--- `bench::show::mark_all` is safe and ends: i stays within the held writes, and the cells keep their lengths.
+-- `looks::show::mark_all` is safe and ends: i stays within the held writes, and the cells keep their lengths.
 use Prim.Native.Nat.{_-_, _≤_}
 use mathlib.Core.Path.{_≡_}
 use lib.ListN.{length}

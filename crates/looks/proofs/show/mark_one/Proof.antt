@@ -1,4 +1,4 @@
--- `bench::show::mark_one` is safe and ends: it counts the write's slots, and the cells keep their lengths.
+-- `looks::show::mark_one` is safe and ends: it counts the write's slots, and the cells keep their lengths.
 use Prim.Native.Nat.{_-_, _≤_}
 use mathlib.Core.Path.{_≡_}
 use lib.ListN.{length}

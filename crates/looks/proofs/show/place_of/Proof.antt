@@ -1,4 +1,4 @@
--- `bench::show::place_of` is safe and ends: i stays within the letters.
+-- `looks::show::place_of` is safe and ends: i stays within the letters.
 use Prim.Native.Nat.{_-_, _≤_}
 use borrow.Author.Needs.{needs}
 use Rattle.looks.proofs.show.place_of.Statement.{statement}

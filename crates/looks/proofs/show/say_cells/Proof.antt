@@ -1,4 +1,4 @@
--- `bench::show::say_cells` is safe and ends: it counts the slots, and the output keeps its room.
+-- `looks::show::say_cells` is safe and ends: it counts the slots, and the output keeps its room.
 use Prim.Native.Nat.{_-_, _≤_}
 use mathlib.Core.Path.{_≡_}
 use lib.ListN.{length}

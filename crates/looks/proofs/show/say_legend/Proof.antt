@@ -1,4 +1,4 @@
--- `bench::show::say_legend` is safe and ends: i stays within the letters, and the output keeps its room.
+-- `looks::show::say_legend` is safe and ends: i stays within the letters, and the output keeps its room.
 use Prim.Native.Nat.{_-_, _≤_}
 use mathlib.Core.Path.{_≡_}
 use lib.ListN.{length}

@@ -1,4 +1,4 @@
--- `bench::show::say_pins` is safe and ends: i stays within the pins, and the output keeps its room.
+-- `looks::show::say_pins` is safe and ends: i stays within the pins, and the output keeps its room.
 use Prim.Native.Nat.{_-_, _≤_}
 use mathlib.Core.Path.{_≡_}
 use lib.ListN.{length}
