@@ -109,13 +109,24 @@ pub fn zeros_at(bytes: &[u8], p: usize, count: usize) -> bool
     clear
 }
 
+// p turned round at n. Most places are below it already, and then nothing is divided: a walk would divide twice for each entry.
+pub fn around(p: usize, n: usize) -> usize
+    requires { ⌜ 0 < n ⌝ }
+    ensures { λ r. ⌜ r ≡ p % n ⌝ }
+{
+    if p < n {
+        return p;
+    }
+    p % n
+}
+
 // The byte at place p of n slots, round the end.
 pub fn round_at(bytes: &[u8], n: usize, p: usize) -> u8
     requires { ⌜ Sized (now bytes) n ⌝ }
     ensures { λ r. ⌜ r ≡ round (now (bytes .entry)) n p ⌝ }
 {
     let span = n * Ring::SLOT;
-    bytes[Ring::HEADER + p % span]
+    bytes[Ring::HEADER + around(p, span)]
 }
 
 // Copies out the bytes at place p of n slots until the lent part is full; they don't go round the end.

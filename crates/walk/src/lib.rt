@@ -128,7 +128,7 @@ fn entry_at(bytes: &[u8], n: usize, place: usize) -> Entry
     ensures { λ r. ⌜ r ≡ entryAt (round (now (bytes .entry)) n) n place ⌝ }
     ensures { λ r. ⌜ r .length < 65536 ⌝ }
 {
-    let slot = place % n;
+    let slot = layout::around(place, n);
     head_at(bytes, Ring::HEADER + slot * Ring::SLOT, slot as u32)
 }
 
@@ -168,7 +168,7 @@ fn filler_at(bytes: &[u8], n: usize, place: usize, length: u32) -> bool
     ensures { λ r. ⌜ r ≡ filler (round (now (bytes .entry)) n) place length ⌝ }
 {
     let full = Ring::slots(length) - 1;
-    let slot = (place + full) % n;
+    let slot = layout::around(place + full, n);
     let start = Ring::HEAD + length as usize - full * Ring::SLOT;
     layout::zeros_at(
         bytes,
