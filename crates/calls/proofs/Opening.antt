@@ -91,14 +91,10 @@ module _ (r : List ℕ) (s : State) where
   pub make-refused : (why : Reason) → madeAnswer r ≡ Refused why → outcomeBy (refuses why) s (made r) ≡ outcome makeRing r s
   make-refused why o = refused-by why (isMakeable (length r)) refl o
 
-  done-by : (b : Bool) → isMakeable (length r) ≡ b → madeAnswer r ≡ Ready → (t : State)
-      → t ≡ outcome reopenRing (made r) s .state → outcomeBy (says []) t (made r) ≡ outcome makeRing r s
+  done-by : (b : Bool) → isMakeable (length r) ≡ b → madeAnswer r ≡ Ready → outcomeBy (says []) (reopened []) (made r) ≡ outcome makeRing r s
   unfolding madeAnswer
-  done-by true e o t q =
-      let w : t ≡ reopened [] = q ∙ ap (λ o. o .state) (sym (reopens (made r) s (emptyRing (slotsFor (length r))) [] (made-opens e))) in
-      rw w (makes e)
-  done-by false e o t q = never (let w : _≡_ {A = Made} (Refused BadBuffer) Ready = (rw e at o) in cc)
+  done-by true e o = makes e
+  done-by false e o = never (let w : _≡_ {A = Made} (Refused BadBuffer) Ready = (rw e at o) in cc)
 
-  pub make-done : madeAnswer r ≡ Ready → (t : State) (r′ : List ℕ) → r′ ≡ made r → t ≡ outcome reopenRing r′ s .state
-      → outcomeBy (says []) t r′ ≡ outcome makeRing r s
-  make-done o t r′ m q = rw m (done-by (isMakeable (length r)) refl o t (q ∙ ap (λ x. outcome reopenRing x s .state) m))
+  pub make-done : madeAnswer r ≡ Ready → (t : State) (r′ : List ℕ) → r′ ≡ made r → t ≡ reopened [] → outcomeBy (says []) t r′ ≡ outcome makeRing r s
+  make-done o t r′ m q = rw (m, q) (done-by (isMakeable (length r)) refl o)

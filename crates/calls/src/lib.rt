@@ -190,8 +190,7 @@ pub fn make(bytes: &mut [u8], s: State) -> AckOut
     if let Made::Refused(why) = made {
         return change::not_done(s, why);
     }
-    let out = reopen(bytes, s);
-    let state = out.state;
+    let state = state::empty_state();
     AckOut {
         state,
         answer: Ack::Done,

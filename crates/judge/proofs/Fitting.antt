@@ -8,7 +8,7 @@ use native.Mathlib.Omega.{arith}
 use native.Mathlib.Numerals.{add-one}
 use borrow.Author.Tests.{eq-eqb, ne-eqb, eqb-true, ltb-true, lt-ltb, le-ltb}
 use lib.ListN.{length, take, drop, getD, set}
-use lib.Seq.{slice, slice-cons, slice-empty, length-take-le, take-suc, take-at, take-take, getD-take, split-at}
+use lib.Seq.{length-take-le, take-suc, take-take, getD-take, split-at}
 use lib.Dec.{eqb, ltb}
 use Rattle.layout.specs.Sizes.{mostEntries, numberLimit}
 use Rattle.layout.specs.Bytes.{both}
@@ -19,48 +19,16 @@ use Rattle.walk.proofs.Rules.{valid-sound}
 use Rattle.state.specs.declared.Listed.{Listed}
 use Rattle.state.specs.declared.Pin.{Pin}
 use Rattle.state.specs.declared.Held.{Held}
-use Rattle.state.specs.Lists.{pick, all, pairs, placeOf, unflushed, inFlight, flushed, gone, noListed, noHeld, noPin, holding, entryOf, phaseFits, RisingTo}
+use Rattle.state.specs.Lists.{pick, any, all, pairs, unflushed, inFlight, flushed, gone, noListed, noHeld, noPin, holding, entryOf, phaseFits, RisingTo}
 use Rattle.state.specs.Pins.{isDue, pinPlace}
 use Rattle.state.proofs.Finding.{none-place}
 use Rattle.state.proofs.Loops.{fill-more}
-use Rattle.state.proofs.Bools.{both-intro}
-use Rattle.state.proofs.Pairs.{all-always, all-snoc, all-right, all-at, pairs-snoc, pairs-before, none-all, some-place}
-use Rattle.judge.specs.Fits.{listedFits, listFits, pinsDiffer, pinFits, pinsFit, phasesFit, nodesFit, pairFits, isInFlight, flightFits, headStays, padded}
+use Rattle.state.proofs.Bools.{both-intro, both-yes, yes-both, both-assoc}
+use Rattle.state.proofs.Pairs.{all-always, all-snoc, all-right, all-at, pairs-snoc, pairs-before, none-all, any-append}
+use Rattle.judge.specs.Fits.{listedFits, listFits, pinsDiffer, pinFits, pinsFit, phasesFit, nodesFit, pairFits, isInFlight, flightFits, headStays}
+use Rattle.judge.specs.Answers.{padded}
 
 -- ---- entries matched with listed writes
-
-pub record Matching (next : ℕ) (es : List Entry) (ws : List Listed) (n i : ℕ) : Type 0 where
-  pub upto : i ≤ n
-  pub entries : n ≤ length es
-  pub writes : n ≤ length ws
-  pub rest : listFits next (take n es) (take n ws) ≡ listFits next (slice i n es) (slice i n ws)
-
-module _ (next : ℕ) (es : List Entry) (ws : List Listed) (n : ℕ) where
-  pub match-start : n ≤ length es → n ≤ length ws → Matching next es ws n 0
-  match-start h k = record { upto = omega arith; entries = h; writes = k; rest = refl }
-
-  module _ (i : ℕ) (s : Matching next es ws n i) where
-    module _ (h : i < n) where
-      one-more : listFits next (slice i n es) (slice i n ws)
-          ≡ both (listedFits next (getD es i noEntry .number) (getD ws i noListed)) (listFits next (slice (i + 1) n es) (slice (i + 1) n ws))
-      unfolding listFits
-      one-more = rw (slice-cons i n es noEntry h (s .entries), slice-cons i n ws noListed h (s .writes), add-one)
-
-      pub match-stop : listedFits next (getD es i noEntry .number) (getD ws i noListed) ≡ false → false ≡ listFits next (take n es) (take n ws)
-      unfolding both
-      match-stop t = sym (s .rest ∙ one-more ∙ rw t)
-
-      pub match-on : listedFits next (getD es i noEntry .number) (getD ws i noListed) ≡ true → Matching next es ws n (i + 1)
-      unfolding both
-      match-on t =
-          record { upto = omega arith; entries = s .entries; writes = s .writes; rest = s .rest ∙ one-more ∙ rw t }
-
-    pub match-end : n ≤ i → true ≡ listFits next (take n es) (take n ws)
-    unfolding listFits
-    match-end h =
-        let u = s .upto in
-        let k : i ≡ n = omega arith in
-        sym (s .rest ∙ rw (k, slice-empty n es, slice-empty n ws))
 
 pub list-length : (next : ℕ) (es : List Entry) (ws : List Listed) → listFits next es ws ≡ true → length es ≡ length ws
 unfolding listFits
@@ -88,20 +56,93 @@ holding-snoc [] (v ∷ ws) e w k = absurd (omega arith)
 holding-snoc (x ∷ es) [] e w k = absurd (omega arith)
 holding-snoc (x ∷ es) (v ∷ ws) e w k = ap (_∷_ (record { entry = x; phase = v .phase })) (holding-snoc es ws e w (omega arith))
 
-pub hold-more : (es : List Entry) (ws : List Listed) (i : ℕ) → i < mostEntries → i < length es → i < length ws
-    → set (padded (holding (take i es) (take i ws))) i (record { entry = getD es i noEntry; phase = getD ws i noListed .phase })
-    ≡ padded (holding (take (i + 1) es) (take (i + 1) ws))
-hold-more es ws i m h k =
-    let a : length (take i es) ≡ i = length-take-le i es (omega arith) in
-    let b : length (take i ws) ≡ i = length-take-le i ws (omega arith) in
-    let n : length (holding (take i es) (take i ws)) ≡ i = holding-length (take i es) (take i ws) (omega arith) ∙ a in
-    let v : Held = record { entry = getD es i noEntry; phase = getD ws i noListed .phase } in
-    rw (add-one i, take-suc es i noEntry h, take-suc ws i noListed k, holding-snoc (take i es) (take i ws) (getD es i noEntry) (getD ws i noListed) (omega arith))
-    (fill-more mostEntries noHeld (holding (take i es) (take i ws)) i v n m)
+list-snoc : (next : ℕ) (es : List Entry) (ws : List Listed) (e : Entry) (w : Listed) → length es ≡ length ws
+    → listFits next (es ++ e ∷ []) (ws ++ w ∷ []) ≡ both (listFits next es ws) (listedFits next (e .number) w)
+unfolding listFits
+list-snoc next [] [] e w k = both-yes (listedFits next (e .number) w) ∙ sym (yes-both _)
+list-snoc next [] (v ∷ ws) e w k = absurd (omega arith)
+list-snoc next (x ∷ es) [] e w k = absurd (omega arith)
+list-snoc next (x ∷ es) (v ∷ ws) e w k =
+    ap (both (listedFits next (x .number) v)) (list-snoc next es ws e w (omega arith)) ∙ both-assoc _ _ _
 
--- the held writes stand in front
-pub held-front : (hs : List Held) → take (length hs) (padded hs) ≡ hs
-held-front hs = take-at hs _ (length hs) refl
+-- the pass over entries and listed writes: what it tells of the first i
+pub record Upto (next : ℕ) (es : List Entry) (ws : List Listed) (n : ℕ) (hs : List Held) (m f : Bool) (i : ℕ) : Type 0 where
+  pub upto : i ≤ n
+  pub most : n ≤ mostEntries
+  pub entries : n ≤ length es
+  pub writes : n ≤ length ws
+  pub held : hs ≡ padded (holding (take i es) (take i ws))
+  pub matched : m ≡ listFits next (take i es) (take i ws)
+  pub flying : f ≡ any isInFlight (holding (take i es) (take i ws))
+
+module _ (next : ℕ) (es : List Entry) (ws : List Listed) (n : ℕ) where
+  pub hold-start : n ≤ mostEntries → n ≤ length es → n ≤ length ws → (held : List Held) → held ≡ padded [] → Upto next es ws n held true false 0
+  unfolding listFits
+  hold-start m h k held e =
+      record {
+        upto = omega arith;
+        most = m;
+        entries = h;
+        writes = k;
+        held = e;
+        matched = refl;
+        flying = refl;
+      }
+
+  module _ (held : List Held) (matched flying : Bool) (i : ℕ) (s : Upto next es ws n held matched flying i) where
+    module _ (h : i < n) where
+      abbrev one : Held
+      one = record { entry = getD es i noEntry; phase = getD ws i noListed .phase }
+
+      abbrev before : List Held
+      before = holding (take i es) (take i ws)
+
+      alike : length (take i es) ≡ length (take i ws)
+      alike =
+          let a = s .entries in
+          let b = s .writes in
+          length-take-le i es (omega arith) ∙ sym (length-take-le i ws (omega arith))
+
+      more : holding (take (i + 1) es) (take (i + 1) ws) ≡ before ++ one ∷ []
+      more =
+          let a = s .entries in
+          let b = s .writes in
+          rw (add-one i, take-suc es i noEntry (omega arith), take-suc ws i noListed (omega arith))
+          (holding-snoc (take i es) (take i ws) (getD es i noEntry) (getD ws i noListed) alike)
+
+      pub hold-on : (b : Bool) → b ≡ both matched (listedFits next (getD es i noEntry .number) (getD ws i noListed)) → (f : Bool)
+          → f ≡ pick flying true (eqb (getD ws i noListed .phase) inFlight) → Upto next es ws n (set held i one) b f (i + 1)
+      hold-on b e f k =
+          let a = s .entries in
+          let c = s .writes in
+          let m = s .most in
+          let long : length before ≡ i = holding-length (take i es) (take i ws) alike ∙ length-take-le i es (omega arith) in
+          record {
+            upto = omega arith;
+            most = s .most;
+            entries = s .entries;
+            writes = s .writes;
+            held = rw (s .held) (fill-more mostEntries noHeld before i one long (omega arith) ∙ ap padded (sym more));
+            matched = e
+                ∙ ap (λ x. both x (listedFits next (getD es i noEntry .number) (getD ws i noListed))) (s .matched)
+                ∙ sym
+                (rw (add-one i, take-suc es i noEntry (omega arith), take-suc ws i noListed (omega arith))
+                (list-snoc next (take i es) (take i ws) (getD es i noEntry) (getD ws i noListed) alike));
+            flying = k ∙ ap (λ x. pick x true (isInFlight one)) (s .flying) ∙ either-snoc ∙ sym (any-append isInFlight before (one ∷ [])) ∙ ap (any isInFlight) (sym more);
+          }
+        where
+          either-snoc : pick (any isInFlight before) true (isInFlight one) ≡ pick (any isInFlight before) true (any isInFlight (one ∷ []))
+          either-snoc = ap (pick (any isInFlight before) true) (alone (isInFlight one))
+            where
+              alone : (b : Bool) → b ≡ pick b true false
+              alone true = refl
+              alone false = refl
+
+    pub hold-end : n ≤ i → Upto next es ws n held matched flying n
+    hold-end h =
+        let u = s .upto in
+        let e : i ≡ n = omega arith in
+        rw e at s
 
 -- numbers rise, as the entries' do, below what is above them all
 pub holding-rising : (es : List Entry) (ws : List Listed) (last : ℕ) → Rising last es → RisingTo numberLimit last (holding es ws)
@@ -280,14 +321,6 @@ head-some ps (h ∷ l) (suc n) z m b e = ap not e
 
 -- ---- a flush and what is In flight
 
-module _ (flush : ℕ) (l : List Held) (n i : ℕ) (m : n ≤ length l) (e : i ≡ placeOf isInFlight (take n l)) where
-  flight-long : length (take n l) ≡ n
-  flight-long = length-take-le n l m
-
-  pub flight-none : flush ≡ 0 → eqb i n ≡ flightFits flush (take n l)
-  unfolding flightFits
-  flight-none z = rw (eq-eqb flush 0 z) (ap (λ i. eqb i n) e ∙ ap (eqb _) (sym flight-long) ∙ none-place isInFlight (take n l))
-
-  pub flight-some : (flush ≡ 0 → ⊥) → ltb i n ≡ flightFits flush (take n l)
-  unfolding flightFits
-  flight-some z = rw (ne-eqb flush 0 z) (ap (λ i. ltb i n) e ∙ ap (ltb _) (sym flight-long) ∙ some-place isInFlight (take n l))
+pub flight-by : (flush : ℕ) (hs : List Held) (flying b : Bool) → flying ≡ any isInFlight hs → b ≡ pick (eqb flush 0) (not flying) flying → b ≡ flightFits flush hs
+unfolding flightFits
+flight-by flush hs flying b k e = e ∙ ap (λ x. pick (eqb flush 0) (not x) x) k

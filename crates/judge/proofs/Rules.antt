@@ -1,16 +1,17 @@
 -- "State fits" as a record of its clauses, and what each test of the judge comes to.
 use Prim.Native.Nat.{ℕ, _≤_}
 use mathlib.Core.Path.{_≡_, refl, sym, _∙_, ap}
-use mathlib.Core.Bool.{Bool, true, false, not}
+use mathlib.Core.Bool.{Bool, true, false}
 use mathlib.Core.List.{List}
 use native.Mathlib.Omega.{arith}
-use borrow.Author.Tests.{eqb-true, eq-eqb, not-true}
-use lib.ListN.{length, take}
+use borrow.Author.Tests.{eqb-true, eq-eqb}
+use lib.ListN.{length, take, getD}
 use lib.Seq.{length-take-le, take-at}
 use lib.Dec.{eqb}
-use Rattle.layout.specs.Sizes.{mostEntries, numberLimit}
+use Rattle.layout.specs.Sizes.{mostEntries}
+use Rattle.layout.specs.Bytes.{both}
 use Rattle.layout.specs.declared.Ring.{Ring}
-use Rattle.layout.proofs.Tests.{both-left, both-right, not-true-false, true-not-false, never}
+use Rattle.layout.proofs.Tests.{both-left, both-right, both-ext, not-true-false, never}
 use Rattle.reason.specs.declared.Reason.{Reason}
 use Rattle.reason.specs.declared.Reason.the-variants.{Unreadable, StateUnfit}
 use Rattle.walk.specs.declared.Entry.{Entry}
@@ -20,11 +21,14 @@ use Rattle.walk.specs.declared.Walked.{Walked}
 use Rattle.walk.proofs.Readings.{answer-readable, reading-sound, entries-few, entries-rise}
 use Rattle.state.specs.declared.State.{State}
 use Rattle.state.specs.declared.Held.{Held}
-use Rattle.state.specs.Lists.{all, holding, listed, phaseFits, RisingTo}
-use Rattle.state.proofs.Bools.{both-intro}
+use Rattle.state.specs.Lists.{any, all, holding, listed, noHeld, phaseFits}
+use Rattle.state.proofs.Bools.{both-intro, both-known}
+use Rattle.state.proofs.Loops.{filled-long}
 use Rattle.judge.specs.declared.Verdict.the-variants.{Fits}
-use Rattle.judge.specs.Fits.{listFits, nextFits, pinsFit, heldFits, fits, padded, judgedNo, judgedOf}
-use Rattle.judge.proofs.Fitting.{list-length, holding-length, holding-rising, holding-phases}
+use Rattle.judge.specs.declared.Seen.{Seen}
+use Rattle.judge.specs.Fits.{listFits, nextFits, pinsFit, isInFlight, heldFits, fits}
+use Rattle.judge.specs.Answers.{SeenWell, judgedNo, judgedOf}
+use Rattle.judge.proofs.Fitting.{list-length, holding-length, holding-phases, Upto}
 
 pub record IsFit (es : List Entry) (s : State) : Type 0 where
   pub count : s .count ≡ length es
@@ -53,63 +57,60 @@ module _ (es : List Entry) (s : State) where
         held = both-right (pinsFit (s .next) (s .pins)) _ c;
       }
 
-  pub fits-false : (IsFit es s → ⊥) → fits es s ≡ false
-  fits-false k = not-true-false _ (λ e. k (fits-sound e))
-
-  pub unfit : (g : Ring) → (IsFit es s → ⊥) → judgedNo StateUnfit ≡ judgedOf (readable g es) s
-  unfit g k = rw (fits-false k)
-
--- a test that fails, and what says it holds
-pub failed : (b c : Bool) → b ≡ c → not b ≡ true → c ≡ true → ⊥
-failed b c e k h = true-not-false c h (sym e ∙ not-true b k)
+  pub unfit : (g : Ring) → fits es s ≡ false → judgedNo StateUnfit ≡ judgedOf (readable g es) s
+  unfit g k = rw k
 
 -- the judge goes by the walk's count, which is the state's once that is tested
 module _ (entries : List Entry) (n : ℕ) (s : State) (m : n ≤ length entries) where
-  pub judge-count : (s .count ≡ n → ⊥) → IsFit (take n entries) s → ⊥
-  judge-count k o = k (o .count ∙ length-take-le n entries m)
+  long : length (take n entries) ≡ n
+  long = length-take-le n entries m
 
-  module _ (e : s .count ≡ n) where
-    front : listed s ≡ take n (s .writes)
-    front = ap (λ c. take c (s .writes)) e
+  pub judge-count : (s .count ≡ n → ⊥) → fits (take n entries) s ≡ false
+  judge-count k = not-true-false _ (λ e. k (fits-sound (take n entries) s e .count ∙ long))
 
-    pub judge-list : (b : Bool) → b ≡ listFits (s .next) (take n entries) (take n (s .writes)) → not b ≡ true → IsFit (take n entries) s → ⊥
-    judge-list b q k o = failed b _ q k (ap (listFits (s .next) (take n entries)) (sym front) ∙ o .list)
+  -- once the pass is over
+  module _ (held : List Held) (k f : Bool) (u : Upto (s .next) entries (s .writes) n held k f n) where
+    abbrev seen : Seen
+    seen = record { matched = k; flying = f; head = getD held 0 noHeld }
 
-    module _ (held : List Held) (h : held ≡ padded (holding (take n entries) (take n (s .writes))))
-        (l : listFits (s .next) (take n entries) (take n (s .writes)) ≡ true) where
-      long : length (take n entries) ≡ n
-      long = length-take-le n entries m
+    -- of held writes that match
+    module _ (l : k ≡ true) where
+      matched : listFits (s .next) (take n entries) (take n (s .writes)) ≡ true
+      matched = sym (u .matched) ∙ l
 
-      judge-front : take n held ≡ holding (take n entries) (listed s)
-      judge-front =
-          let w = list-length (s .next) (take n entries) (take n (s .writes)) l in
-          ap (take n) h
-          ∙ take-at (holding (take n entries) (take n (s .writes))) _ n (holding-length (take n entries) (take n (s .writes)) w ∙ long)
-          ∙ ap (holding (take n entries)) (sym front)
+      many : length (holding (take n entries) (take n (s .writes))) ≡ n
+      many = holding-length (take n entries) (take n (s .writes)) (list-length (s .next) (take n entries) (take n (s .writes)) matched) ∙ long
 
-      judge-listed : listFits (s .next) (take n entries) (listed s) ≡ true
-      judge-listed = ap (listFits (s .next) (take n entries)) front ∙ l
+      front : take n held ≡ holding (take n entries) (take n (s .writes))
+      front = ap (take n) (u .held) ∙ take-at (holding (take n entries) (take n (s .writes))) _ n many
 
-      pub judge-held : (b : Bool) → b ≡ heldFits s (take n held) → not b ≡ true → IsFit (take n entries) s → ⊥
-      judge-held b q k o = failed b _ q k (ap (heldFits s) judge-front ∙ o .held)
-
-      pub judge-requires : n ≤ mostEntries → Rising 0 (take n entries)
-          → (n ≤ mostEntries) × RisingTo numberLimit 0 (take n held) × all phaseFits (take n held) ≡ true
-      judge-requires f r =
-          rw judge-front (f, holding-rising (take n entries) (listed s) 0 r, holding-phases (s .next) (take n entries) (listed s) judge-listed)
-
-      pub judge-fits : (g : Ring) → nextFits (s .next) (s .flush) ≡ true → pinsFit (s .next) (s .pins) ≡ true → heldFits s (take n held) ≡ true
-          → record { verdict = Fits g; count = n; held = held } ≡ judgedOf (readable g (take n entries)) s
-      judge-fits g x p q =
-          let o : IsFit (take n entries) s =
+      pub judge-well : SeenWell held n seen
+      judge-well =
+          let o = u .most in
+          let w : length held ≡ mostEntries =
+          ap length (u .held) ∙ filled-long mostEntries noHeld (holding (take n entries) (take n (s .writes))) (let k = many in omega arith) in
           record {
-            count = e ∙ sym long;
-            list = judge-listed;
-            next = x;
-            pins = p;
-            held = ap (heldFits s) (sym judge-front) ∙ q;
-          } in
-          rw (fits-true (take n entries) s o, long, h, front)
+            long = omega arith;
+            flying = u .flying ∙ ap (any isInFlight) (sym front);
+            head = refl;
+            phases = ap (all phaseFits) front ∙ holding-phases (s .next) (take n entries) (take n (s .writes)) matched;
+          }
+
+    module _ (e : s .count ≡ n) where
+      same : listed s ≡ take n (s .writes)
+      same = ap (λ c. take c (s .writes)) e
+
+      pub judge-by : (b : Bool) → b ≡ both k (both (nextFits (s .next) (s .flush)) (both (pinsFit (s .next) (s .pins)) (heldFits s (take n held))))
+          → b ≡ fits (take n entries) s
+      unfolding fits
+      judge-by b q =
+          q
+          ∙ both-ext k _ _ (λ l. ap (λ x. both (nextFits (s .next) (s .flush)) (both (pinsFit (s .next) (s .pins)) (heldFits s x))) (front l))
+          ∙ ap (λ x. both x (both (nextFits (s .next) (s .flush)) (both (pinsFit (s .next) (s .pins)) (heldFits s (holding (take n entries) (take n (s .writes))))))) (u .matched)
+          ∙ sym (both-known _ _ (eq-eqb _ _ (e ∙ sym long)) ∙ rw same)
+
+      pub judge-fits : (g : Ring) → fits (take n entries) s ≡ true → record { verdict = Fits g; count = n; held = held } ≡ judgedOf (readable g (take n entries)) s
+      judge-fits g q = rw (q, long, u .held, same)
 
 -- ---- from the walk's answer to the reading
 

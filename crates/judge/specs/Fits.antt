@@ -4,19 +4,14 @@ use mathlib.Core.Bool.{Bool, true, false, not}
 use mathlib.Core.List.{List, [], _∷_}
 use lib.ListN.{length}
 use lib.Dec.{eqb, ltb, leb}
-use Rattle.layout.specs.Sizes.{mostEntries, numberLimit}
+use Rattle.layout.specs.Sizes.{numberLimit}
 use Rattle.layout.specs.Bytes.{both}
-use Rattle.reason.specs.declared.Reason.{Reason}
-use Rattle.reason.specs.declared.Reason.the-variants.{Unreadable, StateUnfit}
 use Rattle.walk.specs.declared.Entry.{Entry}
-use Rattle.walk.specs.Walk.{Reading, readable, unreadable}
 use Rattle.state.specs.declared.Listed.{Listed}
 use Rattle.state.specs.declared.Pin.{Pin}
 use Rattle.state.specs.declared.State.{State}
 use Rattle.state.specs.declared.Held.{Held}
-use Rattle.judge.specs.declared.Verdict.the-variants.{Fits, Refused}
-use Rattle.judge.specs.declared.Judged.{Judged}
-use Rattle.state.specs.Lists.{pick, any, all, pairs, filled, unflushed, inFlight, flushed, gone, noHeld, listed, holding}
+use Rattle.state.specs.Lists.{pick, any, all, pairs, unflushed, inFlight, flushed, gone, listed, holding}
 use Rattle.state.specs.Pins.{isDue}
 
 -- the ring's number; next is "above every write" number; and it is Unflushed, In flight or Flushed
@@ -79,18 +74,3 @@ fits es s =
     (both (nextFits (s .next) (s .flush))
     (both (pinsFit (s .next) (s .pins))
     (heldFits s (holding es (listed s))))))
-
--- ---- the judge's answer: 8 and 12 from one walk, and the held writes with nothing behind them
-
-abbrev pub padded : List Held → List Held
-padded hs = filled mostEntries noHeld hs
-
-abbrev pub judgedNo : Reason → Judged
-judgedNo why = record { verdict = Refused why; count = 0; held = padded [] }
-
-abbrev pub judgedOf : Reading → State → Judged
-judgedOf unreadable s = judgedNo Unreadable
-judgedOf (readable g es) s =
-    pick (fits es s)
-    (record { verdict = Fits g; count = length es; held = padded (holding es (listed s)) })
-    (judgedNo StateUnfit)

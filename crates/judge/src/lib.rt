@@ -9,35 +9,22 @@ use state::IN_FLIGHT;
 use state::Listed;
 use state::PINS;
 use state::Pin;
-use state::Query;
 use state::State;
 use state::UNFLUSHED;
 use walk::Entry;
 use walk::Opened;
 use walk::Walked;
 ghost use mathlib.Core.Path.{_≡_};
-ghost use mathlib.Core.Bool.{true, false};
+ghost use mathlib.Core.Bool.{true, false, not};
 ghost use Prim.Native.Nat.{_≤_, _<_};
-ghost use lib.ListN.{getD, take, replicate};
-ghost use Rattle.layout.specs.Sizes.{mostEntries, numberLimit};
-ghost use Rattle.walk.specs.Walk.{Rising, readable, readingOf};
-ghost use Rattle.state.specs.Lists.{all, pairs, noHeld, noPin, phaseFits, RisingTo, mostPins, listed, holding};
-ghost use Rattle.judge.specs.Fits.{
-  listedFits,
-  listFits,
-  nextFits,
-  pinFits,
-  pinsFit,
-  phasesFit,
-  pairFits,
-  flightFits,
-  headStays,
-  heldFits,
-  fits,
-  padded,
-  judgedNo,
-  judgedOf,
-};
+ghost use lib.ListN.{take, replicate};
+ghost use lib.Dec.{eqb};
+ghost use Rattle.layout.specs.Sizes.{mostEntries};
+ghost use Rattle.layout.specs.Bytes.{both};
+ghost use Rattle.walk.specs.Walk.{readable, readingOf};
+ghost use Rattle.state.specs.Lists.{pick, pairs, noHeld, inFlight, mostPins};
+ghost use Rattle.judge.specs.Fits.{listedFits, nextFits, pinFits, pinsFit, phasesFit, pairFits, heldFits};
+ghost use Rattle.judge.specs.Answers.{SeenWell, judgedNo, judgedOf};
 
 // The judge's word on a ring and a state; the refusals are Unreadable and StateUnfit.
 pub enum Verdict {
@@ -50,6 +37,16 @@ pub struct Judged {
     pub verdict: Verdict,
     pub count: usize,
     pub held: [Held; Ring::ENTRIES],
+}
+
+// What the pass over the ring's entries and the listed writes tells beside the held writes.
+struct Seen {
+    // Whether the listed writes are the ring's entries, in order.
+    matched: bool,
+    // Whether any is In flight.
+    flying: bool,
+    // The oldest, or zeros.
+    head: Held,
 }
 
 // Whether a listed write has the ring's number, below the next, and is Unflushed, In flight or Flushed.
@@ -68,28 +65,6 @@ fn one_fits(listed: Listed, number: u64, next: u64) -> bool
     true
 }
 
-// Whether the listed writes are the ring's entries, in order.
-fn list_fits(
-    entries: [Entry; Ring::ENTRIES],
-    writes: [Listed; Ring::ENTRIES],
-    count: usize,
-    next: u64,
-) -> bool
-    requires { ⌜ count ≤ mostEntries ⌝ }
-    ensures { λ r. ⌜ r ≡ listFits next (take count entries) (take count writes) ⌝ }
-{
-    let mut i: usize = 0;
-    while i < count {
-        let entry = entries[i];
-        let one = writes[i];
-        if !one_fits(one, entry.number, next) {
-            return false;
-        }
-        i += 1;
-    }
-    true
-}
-
 fn none_held() -> [Held; Ring::ENTRIES]
     ensures { λ r. ⌜ r ≡ replicate mostEntries noHeld ⌝ }
 {
@@ -97,35 +72,31 @@ fn none_held() -> [Held; Ring::ENTRIES]
     [Held { entry, phase: 0 }; Ring::ENTRIES]
 }
 
-// The entries beside their states.
-fn hold(
-    entries: [Entry; Ring::ENTRIES],
-    writes: [Listed; Ring::ENTRIES],
-    count: usize,
-) -> [Held; Ring::ENTRIES]
-    requires { ⌜ count ≤ mostEntries ⌝ }
-    ensures { λ r. ⌜ r ≡ padded (holding (take count entries) (take count writes)) ⌝ }
+// Whether one listed write more has the ring's number, below the next, and is Unflushed, In flight or Flushed.
+fn matches_on(matched: bool, listed: Listed, number: u64, next: u64) -> bool
+    ensures { λ r. ⌜ r ≡ both matched (listedFits next number listed) ⌝ }
 {
-    let mut held = none_held();
-    let mut i: usize = 0;
-    while i < count {
-        let entry = entries[i];
-        let one = writes[i];
-        held[i] = Held {
-            entry,
-            phase: one.phase,
-        };
-        i += 1;
+    if !matched {
+        return false;
     }
-    held
+    one_fits(listed, number, next)
 }
 
-// Whether a pin's number is below the next, and no earlier record has it.
-fn pin_fits(pins: [Pin; PINS], i: usize, next: u64) -> bool
-    requires { ⌜ i < mostPins ⌝ }
-    ensures { λ r. ⌜ r ≡ pinFits next (take i pins) (getD pins i noPin) ⌝ }
+// Whether one write more or any before it is In flight.
+fn flies_on(flying: bool, phase: u8) -> bool
+    ensures { λ r. ⌜ r ≡ pick flying true (eqb phase inFlight) ⌝ }
 {
-    let pin = pins[i];
+    if flying {
+        return true;
+    }
+    phase == IN_FLIGHT
+}
+
+// Whether a pin's number is below the next, and none of the first i records has it.
+fn pin_fits(pins: [Pin; PINS], i: usize, pin: Pin, next: u64) -> bool
+    requires { ⌜ i < mostPins ⌝ }
+    ensures { λ r. ⌜ r ≡ pinFits next (take i pins) pin ⌝ }
+{
     if next <= pin.number {
         return false;
     }
@@ -141,7 +112,8 @@ fn pins_fit(pins: [Pin; PINS], next: u64) -> bool
 {
     let mut i: usize = 0;
     while i < PINS {
-        if !pin_fits(pins, i, next) {
+        let pin = pins[i];
+        if !pin_fits(pins, i, pin, next) {
             return false;
         }
         i += 1;
@@ -202,51 +174,32 @@ fn order_fits(held: [Held; Ring::ENTRIES], count: usize) -> bool
 }
 
 // Whether there are writes In flight exactly if there is a flush number.
-fn flight_fits(held: [Held; Ring::ENTRIES], count: usize, flush: u64) -> bool
-    requires { ⌜ (count ≤ mostEntries) × RisingTo numberLimit 0 (take count held) ⌝ }
-    ensures { λ r. ⌜ r ≡ flightFits flush (take count held) ⌝ }
+fn flight_fits(flying: bool, flush: u64) -> bool
+    ensures { λ r. ⌜ r ≡ pick (eqb flush 0) (not flying) flying ⌝ }
 {
-    let i = state::find(
-        held,
-        count,
-        Query {
-            node: 0,
-            below: Ring::NUMBERS,
-            low: IN_FLIGHT,
-            high: IN_FLIGHT,
-        },
-    );
     if flush == 0 {
-        return i == count;
+        return !flying;
     }
-    i < count
+    flying
 }
 
-// Whether the head entry stays.
-fn head_stays(held: [Held; Ring::ENTRIES], count: usize, pins: [Pin; PINS]) -> bool
-    requires { ⌜ (count ≤ mostEntries) × all phaseFits (take count held) ≡ true ⌝ }
-    ensures { λ r. ⌜ r ≡ headStays pins (take count held) ⌝ }
-{
-    if count == 0 {
-        return true;
-    }
-    let head = held[0];
-    !state::is_due(pins, head)
-}
-
-// What is judged of the held writes.
-fn held_fits(held: [Held; Ring::ENTRIES], count: usize, s: State) -> bool
-    requires { ⌜ (count ≤ mostEntries) × RisingTo numberLimit 0 (take count held) × all phaseFits (take count held) ≡ true ⌝ }
+// What is judged of the held writes: their order, the flush, and that the head entry stays.
+fn held_fits(held: [Held; Ring::ENTRIES], count: usize, seen: Seen, s: State) -> bool
+    requires { ⌜ (count ≤ mostEntries) × SeenWell held count seen ⌝ }
     ensures { λ r. ⌜ r ≡ heldFits s (take count held) ⌝ }
 {
+    let head = seen.head;
     let pins = s.pins;
     if !order_fits(held, count) {
         return false;
     }
-    if !flight_fits(held, count, s.flush) {
+    if !flight_fits(seen.flying, s.flush) {
         return false;
     }
-    head_stays(held, count, pins)
+    if count == 0 {
+        return true;
+    }
+    !state::is_due(pins, head)
 }
 
 // Whether the next number is in its bounds.
@@ -273,27 +226,56 @@ fn refused(why: Reason) -> Judged
     }
 }
 
-// The judge of a ring that is readable.
+// What is judged of a state that lists as many writes as the ring has.
+fn state_fits(held: [Held; Ring::ENTRIES], count: usize, seen: Seen, s: State) -> bool
+    requires { ⌜ (count ≤ mostEntries) × (seen .matched ≡ true → SeenWell held count seen) ⌝ }
+    ensures { λ r. ⌜ r ≡ both (seen .matched) (both (nextFits (s .next) (s .flush)) (both (pinsFit (s .next) (s .pins)) (heldFits s (take count held)))) ⌝ }
+{
+    let pins = s.pins;
+    if !seen.matched {
+        return false;
+    }
+    if !next_fits(s.next, s.flush) {
+        return false;
+    }
+    if !pins_fit(pins, s.next) {
+        return false;
+    }
+    held_fits(held, count, seen, s)
+}
+
+// The judge of a ring that is readable: the entries are held beside their states in one pass over both, and then judged. The pass stands here,
+// since a function of its own would hand ten kilobytes back and forth.
 fn judge_entries(ring: Ring, entries: [Entry; Ring::ENTRIES], count: usize, s: State) -> Judged
-    requires { ⌜ (count ≤ mostEntries) × Rising 0 (take count entries) ⌝ }
+    requires { ⌜ count ≤ mostEntries ⌝ }
     ensures { λ r. ⌜ r ≡ judgedOf (readable ring (take count entries)) s ⌝ }
 {
     let writes = s.writes;
-    let pins = s.pins;
     if s.count != count {
         return refused(Reason::StateUnfit);
     }
-    if !list_fits(entries, writes, count, s.next) {
-        return refused(Reason::StateUnfit);
+    let mut held = none_held();
+    let mut matched = true;
+    let mut flying = false;
+    let mut i: usize = 0;
+    while i < count {
+        let entry = entries[i];
+        let one = writes[i];
+        matched = matches_on(matched, one, entry.number, s.next);
+        flying = flies_on(flying, one.phase);
+        held[i] = Held {
+            entry,
+            phase: one.phase,
+        };
+        i += 1;
     }
-    if !next_fits(s.next, s.flush) {
-        return refused(Reason::StateUnfit);
-    }
-    if !pins_fit(pins, s.next) {
-        return refused(Reason::StateUnfit);
-    }
-    let held = hold(entries, writes, count);
-    if !held_fits(held, count, s) {
+    let head = held[0];
+    let seen = Seen {
+        matched,
+        flying,
+        head,
+    };
+    if !state_fits(held, count, seen, s) {
         return refused(Reason::StateUnfit);
     }
     Judged {

@@ -13,22 +13,22 @@ use Rattle.layout.proofs.Puts.{put-join}
 
 -- ---- neither move goes round the end
 
-module _ (p m : ℕ) (some : 0 < m) where
-  pub under : (p % m) ≤ m
+module _ (p m q : ℕ) (e : q ≡ p % m) (some : 0 < m) where
+  pub under : q ≤ m
   under = let h = mod-lt p some in omega arith
 
-  pub first-fits : (k : ℕ) → k ≤ m - (p % m) → (p % m) + k ≤ m
+  pub first-fits : (k : ℕ) → k ≤ m - q → (p % m) + k ≤ m
   first-fits k h = let l = mod-lt p some in omega arith
 
   -- behind the part up to the end stands the ring's start
-  turned : (p + (m - (p % m))) % m ≡ 0
+  turned : (p + (m - q)) % m ≡ 0
   turned =
       let l = mod-lt p some in
-      let e : (p % m) + (m - (p % m)) ≡ m = omega arith in
-      sym (mod-add-mod p m (m - (p % m))) ∙ ap (λ x. x % m) e ∙ mod-self m
+      let w : (p % m) + (m - q) ≡ m = omega arith in
+      sym (mod-add-mod p m (m - q)) ∙ ap (λ x. x % m) w ∙ mod-self m
 
-  pub rest-fits : (k : ℕ) → k ≤ m → ((p + (m - (p % m))) % m) + k ≤ m
-  rest-fits k h = let e = turned in omega arith
+  pub rest-fits : (k : ℕ) → k ≤ m → ((p + (m - q)) % m) + k ≤ m
+  rest-fits k h = let z = turned in omega arith
 
 -- ---- taking: what came back in the two parts that were lent on, said of the whole
 

@@ -136,7 +136,7 @@ fn take_run(bytes: &[u8], n: usize, p: usize, out: &mut [u8])
     ensures { λ _. ⌜ now (out .exit) ≡ bytesAt (round (now (bytes .entry)) n) p (length (now (out .entry))) ⌝ }
 {
     let span = n * Ring::SLOT;
-    let start = Ring::HEADER + p % span;
+    let start = Ring::HEADER + around(p, span);
     let mut i = 0;
     while i < out.len() {
         out[i] = bytes[start + i];
@@ -151,7 +151,7 @@ pub fn take_bytes(bytes: &[u8], n: usize, p: usize, out: &mut [u8])
     ensures { λ _. ⌜ now (out .exit) ≡ bytesAt (round (now (bytes .entry)) n) p (length (now (out .entry))) ⌝ }
 {
     let span = n * Ring::SLOT;
-    let left = span - p % span;
+    let left = span - around(p, span);
     let count = out.len();
     if count <= left {
         take_run(bytes, n, p, out);
@@ -168,7 +168,7 @@ fn put_run(bytes: &mut [u8], n: usize, p: usize, src: &[u8])
     ensures { λ _. ⌜ now (bytes .exit) ≡ put (now (bytes .entry)) n p (now (src .entry)) ⌝ }
 {
     let span = n * Ring::SLOT;
-    let start = Ring::HEADER + p % span;
+    let start = Ring::HEADER + around(p, span);
     let mut i = 0;
     while i < src.len() {
         bytes[start + i] = src[i];
@@ -183,7 +183,7 @@ pub fn put_bytes(bytes: &mut [u8], n: usize, p: usize, src: &[u8])
     ensures { λ _. ⌜ now (bytes .exit) ≡ put (now (bytes .entry)) n p (now (src .entry)) ⌝ }
 {
     let span = n * Ring::SLOT;
-    let left = span - p % span;
+    let left = span - around(p, span);
     let count = src.len();
     if count <= left {
         put_run(bytes, n, p, src);
@@ -200,7 +200,7 @@ fn put_zero_run(bytes: &mut [u8], n: usize, p: usize, count: usize)
     ensures { λ _. ⌜ now (bytes .exit) ≡ put (now (bytes .entry)) n p (replicate count 0) ⌝ }
 {
     let span = n * Ring::SLOT;
-    let start = Ring::HEADER + p % span;
+    let start = Ring::HEADER + around(p, span);
     let mut i = 0;
     while i < count {
         bytes[start + i] = 0;
@@ -215,7 +215,7 @@ pub fn put_zeros(bytes: &mut [u8], n: usize, p: usize, count: usize)
     ensures { λ _. ⌜ now (bytes .exit) ≡ put (now (bytes .entry)) n p (replicate count 0) ⌝ }
 {
     let span = n * Ring::SLOT;
-    let left = span - p % span;
+    let left = span - around(p, span);
     if count <= left {
         put_zero_run(bytes, n, p, count);
         return;

@@ -19,7 +19,8 @@ use Rattle.state.specs.Lists.{holding, listed}
 use Rattle.judge.specs.declared.Verdict.{Verdict}
 use Rattle.judge.specs.declared.Verdict.the-variants.{Fits, Refused}
 use Rattle.judge.specs.declared.Judged.{Judged}
-use Rattle.judge.specs.Fits.{fits, padded, judgedOf}
+use Rattle.judge.specs.Fits.{fits}
+use Rattle.judge.specs.Answers.{padded, judgedOf}
 use Rattle.judge.proofs.Fitting.{list-length, holding-length}
 use Rattle.judge.proofs.Rules.{fits-sound}
 use Rattle.rules.specs.Call.{Call, makes, reopens, isOne}

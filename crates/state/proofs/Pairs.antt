@@ -3,17 +3,13 @@ use Prim.Native.Nat.{ℕ, _+_, _≤_, _<_}
 use mathlib.Core.Path.{_≡_, refl, sym, _∙_, ap}
 use mathlib.Core.Bool.{Bool, true, false, not}
 use mathlib.Core.List.{List, [], _∷_, _++_, append-assoc}
-use mathlib.Core.Logic.{_⊎_, inl, inr}
 use native.Mathlib.Numerals.{add-one}
-use borrow.Author.Tests.{lt-ltb, le-ltb}
 use lib.ListN.{length, take, getD, take-append-drop}
 use lib.Seq.{slice, take-suc, take-take}
-use lib.Dec.{ltb}
 use Rattle.layout.specs.Bytes.{both}
-use Rattle.layout.proofs.Tests.{both-left, both-right, lt-or-le}
+use Rattle.layout.proofs.Tests.{both-left, both-right}
 use Rattle.state.proofs.Bools.{both-intro, yes-both, no-both, both-yes, both-assoc, both-cross}
-use Rattle.state.specs.Lists.{pick, any, all, pairs, placeOf}
-use Rattle.state.proofs.Loops.{any-found, any-none}
+use Rattle.state.specs.Lists.{pick, any, all, pairs}
 use Rattle.state.proofs.Finding.{each-at, each-true}
 
 module _ {A : Type 0} (p : A → Bool) where
@@ -52,13 +48,6 @@ module _ {A : Type 0} (p : A → Bool) where
       at : (b : Bool) → p x ≡ b → not (any p xs) ≡ all (λ x. not (p x)) xs → not (any p (x ∷ xs)) ≡ all (λ x. not (p x)) (x ∷ xs)
       at true e k = rw e (sym (no-both (all (λ x. not (p x)) xs)))
       at false e k = rw e (k ∙ sym (yes-both (all (λ x. not (p x)) xs)))
-
-  pub some-place : (xs : List A) → ltb (placeOf p xs) (length xs) ≡ any p xs
-  some-place xs = at (lt-or-le (placeOf p xs) (length xs))
-    where
-      at : (placeOf p xs < length xs) ⊎ (length xs ≤ placeOf p xs) → ltb (placeOf p xs) (length xs) ≡ any p xs
-      at (inl h) = rw (any-found p xs h, lt-ltb (placeOf p xs) (length xs) h)
-      at (inr h) = rw (any-none p xs h, le-ltb (placeOf p xs) (length xs) h)
 
 module _ {A : Type 0} (p : A → A → Bool) where
   pub pairs-snoc : (xs : List A) (y : A) → pairs p (xs ++ y ∷ []) ≡ both (pairs p xs) (all (λ x. p x y) xs)

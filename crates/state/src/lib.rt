@@ -4,7 +4,7 @@ use layout::Ring;
 use walk::Entry;
 ghost use mathlib.Core.Path.{_≡_};
 ghost use mathlib.Core.Bool.{true, false};
-ghost use mathlib.Core.List.{map, _++_};
+ghost use mathlib.Core.List.{[], map, _++_};
 ghost use Prim.Native.Nat.{_+_, _-_, _≤_, _<_};
 ghost use lib.ListN.{length, take, drop, replicate};
 ghost use Rattle.layout.specs.Sizes.{mostEntries, numberLimit};
@@ -452,6 +452,25 @@ fn next_after(entries: [Entry; Ring::ENTRIES], count: usize) -> u64
     last.number + 1
 }
 
+// The state of an empty ring.
+pub fn empty_state() -> State
+    ensures { λ r. ⌜ r ≡ reopened [] ⌝ }
+{
+    let writes = none_listed();
+    let pins = [Pin {
+        number: 0,
+        mark: 0,
+        node: 0,
+    }; PINS];
+    State {
+        next: 1,
+        flush: 0,
+        count: 0,
+        writes,
+        pins,
+    }
+}
+
 // The state that reopening gives.
 pub fn reopen_state(entries: [Entry; Ring::ENTRIES], count: usize) -> State
     requires { ⌜ (count ≤ mostEntries) × Rising 0 (take count entries) ⌝ }
@@ -459,16 +478,9 @@ pub fn reopen_state(entries: [Entry; Ring::ENTRIES], count: usize) -> State
 {
     let next = next_after(entries, count);
     let writes = list_back(entries, count);
-    let pins = [Pin {
-        number: 0,
-        mark: 0,
-        node: 0,
-    }; PINS];
-    State {
-        next,
-        flush: 0,
-        count,
-        writes,
-        pins,
-    }
+    let mut t = empty_state();
+    t.next = next;
+    t.count = count;
+    t.writes = writes;
+    t
 }

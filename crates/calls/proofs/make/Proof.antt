@@ -1,5 +1,5 @@
--- `calls::make` meets its contract: a ring that is made reopens as empty (`make-done`).
-use mathlib.Core.Path.{sym, _∙_, ap}
+-- `calls::make` meets its contract: what is made is an empty ring, and so is its state (`make-done`).
+use mathlib.Core.Path.{sym, _∙_}
 use borrow.Author.Needs.{needs}
 use denote.Ref.{now}
 use Rattle.calls.proofs.Opening.{make-refused, make-done}
@@ -26,16 +26,16 @@ returns c =
 enum-told : tie.Need-enum-told
 enum-told c = search needs
 
-reopen-requires : tie.Need-reopen-requires
-reopen-requires c κs = search needs
+empty-state-requires : tie.Need-empty-state-requires
+empty-state-requires c κs = search needs
 
 same-length-2 : tie.Need-same-length-2
 same-length-2 c = search needs
 
 returns-2 : tie.Need-returns-2
 returns-2 c =
-    let a = c .before .before .before .before .before .before .before .before .before .before .args in
-    make-done (now (a .bytes)) (a .s) (sym (c .before .before .before .before .before .before .before .make .ensures .0) ∙ c .before .before .before .enum-told .given .1) _ _ (c .before .before .before .before .before .before .before .make .ensures .1) (ap (λ o. o .state) (c .before .reopen .ensures))
+    let a = c .before .before .before .before .before .before .before .before .args in
+    make-done (now (a .bytes)) (a .s) (sym (c .before .before .before .before .before .make .ensures .0) ∙ c .before .enum-told .given .1) _ _ (c .before .before .before .before .before .make .ensures .1) (c .empty-state .ensures)
 
 pub make-spec : {M : Type 1} → statement M
 make-spec =
@@ -47,6 +47,6 @@ make-spec =
     same-length
     returns
     enum-told
-    reopen-requires
+    empty-state-requires
     same-length-2
     returns-2)

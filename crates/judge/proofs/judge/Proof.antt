@@ -3,7 +3,7 @@ use mathlib.Core.Path.{sym, _∙_, ap}
 use borrow.Author.Needs.{needs}
 use denote.Ref.{now}
 use Rattle.walk.specs.Walk.{readingOf}
-use Rattle.judge.specs.Fits.{judgedOf}
+use Rattle.judge.specs.Answers.{judgedOf}
 use Rattle.judge.proofs.Rules.{read-entries, read-refused, walked-few}
 use Rattle.judge.proofs.judge.Statement.{statement}
 use Rattle.judge.proofs.judge.Tie as tie
@@ -26,7 +26,8 @@ returns c =
     c .refused .ensures ∙ read-refused (readingOf (now (a .bytes))) _ _ (a .s) (c .before .before .before .before .read .ensures) (c .before .enum-told .given .1)
 
 judge-entries-requires : tie.Need-judge-entries-requires
-judge-entries-requires c κs = walked-few (now (c .before .before .before .before .before .before .args .bytes)) _ _ (c .before .before .before .before .read .ensures) (c .before .opened .given .1)
+judge-entries-requires c κs =
+    walked-few (now (c .before .before .before .before .before .before .args .bytes)) _ _ (c .before .before .before .before .read .ensures) (c .before .opened .given .1) .0
 
 returns-2 : tie.Need-returns-2
 returns-2 c =

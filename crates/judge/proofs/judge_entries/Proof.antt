@@ -1,95 +1,123 @@
--- `judge::judge_entries` meets its contract: each early return is a clause of `IsFit` that can't hold.
-use Prim.Native.Nat.{_≤_}
+-- `judge::judge_entries` meets its contract: `Upto`: what the pass tells of the entries so far. Behind it the tests come to "state fits".
+use Prim.Native.Nat.{_-_, _≤_}
 use mathlib.Core.Path.{sym, _∙_}
 use native.Mathlib.Omega.{arith}
-use borrow.Author.Tests.{not-false}
+use borrow.Author.Tests.{not-true, not-false}
 use borrow.Author.Needs.{needs}
 use lib.ListN.{length}
-use Rattle.judge.proofs.Rules.{unfit, failed, judge-count, judge-list, judge-held, judge-requires, judge-fits}
+use Rattle.state.proofs.Lengths.{writes-long}
+use Rattle.judge.proofs.Fitting.{Upto, hold-start, hold-on, hold-end}
+use Rattle.judge.proofs.Rules.{unfit, judge-count, judge-well, judge-by, judge-fits}
 use Rattle.judge.proofs.judge_entries.Statement.{statement}
 use Rattle.judge.proofs.judge_entries.Tie as tie
 
-refused-requires : tie.Need-refused-requires
+abbrev Inv-loop : tie.InvT-loop
+Inv-loop ring count s entries writes held₀ matched₀ flying₀ i₀ held matched flying i = Upto (s .next) entries writes count held matched flying i
+
+abbrev μ-loop : tie.MeasureT-loop
+μ-loop ring count s entries writes held₀ matched₀ flying₀ i₀ held matched flying i = count - i
+
+refused-requires : tie.Need-refused-requires Inv-loop μ-loop
 refused-requires c κs = search needs
 
-returns : tie.Need-returns
+returns : tie.Need-returns Inv-loop μ-loop
 returns c =
-    let a = c .before .before .before .before .before .args in
-    let m : a .count ≤ length (a .entries) = omega arith in
-    c .refused .ensures ∙ unfit _ _ _ (judge-count (a .entries) (a .count) (a .s) m (c .before .if1 .taken))
+    let a = c .before .before .before .before .args in
+    let m : a .count ≤ length (a .t2) = omega arith in
+    c .refused .ensures ∙ unfit _ _ _ (judge-count (a .t2) (a .count) (a .s) m (c .before .if1 .taken))
 
-list-fits-requires : tie.Need-list-fits-requires
-list-fits-requires c κs = search needs
+none-held-requires : tie.Need-none-held-requires Inv-loop μ-loop
+none-held-requires c κs = search needs
 
-refused-requires-2 : tie.Need-refused-requires-2
+loop-holds : tie.Need-loop-holds Inv-loop μ-loop
+loop-holds c =
+    let w = writes-long (c .before .before .before .before .args .s) (c .before .before .before .before .good .1 .1 .1 .0) in
+    hold-start _ _ _ _ (c .before .before .before .before .pre) (omega arith) (omega arith) _ (c .none-held .ensures)
+
+mul-entry : tie.Need-mul-entry Inv-loop μ-loop
+mul-entry c = omega arith
+
+array-copy-out-entry : tie.Need-array-copy-out-entry Inv-loop μ-loop
+array-copy-out-entry c = omega arith
+
+mul-one : tie.Need-mul-one Inv-loop μ-loop
+mul-one c = omega arith
+
+array-copy-out-one : tie.Need-array-copy-out-one Inv-loop μ-loop
+array-copy-out-one c = omega arith
+
+matches-on-requires : tie.Need-matches-on-requires Inv-loop μ-loop
+matches-on-requires c κs = search needs
+
+flies-on-requires : tie.Need-flies-on-requires Inv-loop μ-loop
+flies-on-requires c κs = search needs
+
+mul-held : tie.Need-mul-held Inv-loop μ-loop
+mul-held c = omega arith
+
+array-set-from-held : tie.Need-array-set-from-held Inv-loop μ-loop
+array-set-from-held c = omega arith
+
+add-i : tie.Need-add-i Inv-loop μ-loop
+add-i c = omega arith
+
+loop-less : tie.Need-loop-less Inv-loop μ-loop
+loop-less c = omega arith
+
+loop-again : tie.Need-loop-again Inv-loop μ-loop
+loop-again c =
+    hold-on _ _ _ _ _ _ _ _ (c .before .before .before .before .before .loop .inv) (c .before .before .before .before .loop-test .taken) _ (c .before .matches-on .ensures) _ (c .flies-on .ensures)
+
+array-copy-out-head : tie.Need-array-copy-out-head Inv-loop μ-loop
+array-copy-out-head c = omega arith
+
+state-fits-requires : tie.Need-state-fits-requires Inv-loop μ-loop
+state-fits-requires c κs =
+    let a = c .before .before .before .before .before .before .before .args in
+    let u = hold-end _ _ _ _ _ _ _ _ (c .before .before .loop .inv) (c .before .loop-test .left) in
+    (c .before .before .before .before .before .before .before .pre, judge-well (a .t2) (a .count) (a .s) (u .entries) _ _ _ u)
+
+refused-requires-2 : tie.Need-refused-requires-2 Inv-loop μ-loop
 refused-requires-2 c κs = search needs
 
-returns-2 : tie.Need-returns-2
+returns-2 : tie.Need-returns-2 Inv-loop μ-loop
 returns-2 c =
-    let a = c .before .before .before .before .before .before .before .args in
-    let m : a .count ≤ length (a .entries) = omega arith in
-    c .refused2 .ensures ∙ unfit _ _ _ (judge-list (a .entries) (a .count) (a .s) m (c .before .before .before .if1 .left) _ (c .before .before .list-fits .ensures) (c .before .if2 .taken))
+    let a = c .before .before .before .before .before .before .before .before .before .before .args in
+    let u = hold-end _ _ _ _ _ _ _ _ (c .before .before .before .before .before .loop .inv) (c .before .before .before .before .loop-test .left) in
+    let b = judge-by (a .t2) (a .count) (a .s) (u .entries) _ _ _ u (c .before .before .before .before .before .before .before .if1 .left) _ (c .before .before .state-fits .ensures) in
+    c .refused2 .ensures ∙ unfit _ _ _ (sym b ∙ not-true _ (c .before .if2 .taken))
 
-next-fits-requires : tie.Need-next-fits-requires
-next-fits-requires c κs = search needs
-
-refused-requires-3 : tie.Need-refused-requires-3
-refused-requires-3 c κs = search needs
-
-returns-3 : tie.Need-returns-3
-returns-3 c = c .refused3 .ensures ∙ unfit _ _ _ (λ o. failed _ _ (c .before .before .next-fits .ensures) (c .before .if3 .taken) (o .next))
-
-pins-fit-requires : tie.Need-pins-fit-requires
-pins-fit-requires c κs = search needs
-
-refused-requires-4 : tie.Need-refused-requires-4
-refused-requires-4 c κs = search needs
-
-returns-4 : tie.Need-returns-4
-returns-4 c = c .refused4 .ensures ∙ unfit _ _ _ (λ o. failed _ _ (c .before .before .pins-fit .ensures) (c .before .if4 .taken) (o .pins))
-
-hold-requires : tie.Need-hold-requires
-hold-requires c κs = search needs
-
-held-fits-requires : tie.Need-held-fits-requires
-held-fits-requires c κs =
-    let a = c .before .before .before .before .before .before .before .before .before .before .before .args in
-    let m : a .count ≤ length (a .entries) = omega arith in
-    judge-requires (a .entries) (a .count) (a .s) m (c .before .before .before .before .before .before .before .if1 .left) _ (c .hold .ensures) (sym (c .before .before .before .before .before .before .list-fits .ensures) ∙ not-false _ (c .before .before .before .before .before .if2 .left)) (omega arith) (c .before .before .before .before .before .before .before .before .before .before .before .pre .1)
-
-refused-requires-5 : tie.Need-refused-requires-5
-refused-requires-5 c κs = search needs
-
-returns-5 : tie.Need-returns-5
-returns-5 c =
-    let a = c .before .before .before .before .before .before .before .before .before .before .before .before .before .before .args in
-    let m : a .count ≤ length (a .entries) = omega arith in
-    c .refused5 .ensures ∙ unfit _ _ _ (judge-held (a .entries) (a .count) (a .s) m (c .before .before .before .before .before .before .before .before .before .before .if1 .left) _ (c .before .before .before .hold .ensures) (sym (c .before .before .before .before .before .before .before .before .before .list-fits .ensures) ∙ not-false _ (c .before .before .before .before .before .before .before .before .if2 .left)) _ (c .before .before .held-fits .ensures) (c .before .if5 .taken))
-
-returns-6 : tie.Need-returns-6
-returns-6 c =
-    let a = c .before .before .before .before .before .before .before .before .before .before .before .before .before .args in
-    let m : a .count ≤ length (a .entries) = omega arith in
-    judge-fits (a .entries) (a .count) (a .s) m (c .before .before .before .before .before .before .before .before .before .if1 .left) _ (c .before .before .hold .ensures) (sym (c .before .before .before .before .before .before .before .before .list-fits .ensures) ∙ not-false _ (c .before .before .before .before .before .before .before .if2 .left)) (a .ring)
-    (sym (c .before .before .before .before .before .before .next-fits .ensures) ∙ not-false _ (c .before .before .before .before .before .if3 .left)) (sym (c .before .before .before .before .pins-fit .ensures) ∙ not-false _ (c .before .before .before .if4 .left)) (sym (c .before .held-fits .ensures) ∙ not-false _ (c .if5 .left))
+returns-3 : tie.Need-returns-3 Inv-loop μ-loop
+returns-3 c =
+    let a = c .before .before .before .before .before .before .before .before .before .args in
+    let u = hold-end _ _ _ _ _ _ _ _ (c .before .before .before .before .loop .inv) (c .before .before .before .loop-test .left) in
+    let e = c .before .before .before .before .before .before .if1 .left in
+    let b = judge-by (a .t2) (a .count) (a .s) (u .entries) _ _ _ u e _ (c .before .state-fits .ensures) in
+    judge-fits (a .t2) (a .count) (a .s) (u .entries) _ _ _ u e _ (sym b ∙ not-false _ (c .if2 .left))
 
 pub judge-entries-spec : {M : Type 1} → statement M
 judge-entries-spec =
     tie.close
     (tie.spec
+    Inv-loop
+    μ-loop
     refused-requires
     returns
-    list-fits-requires
+    none-held-requires
+    loop-holds
+    mul-entry
+    array-copy-out-entry
+    mul-one
+    array-copy-out-one
+    matches-on-requires
+    flies-on-requires
+    mul-held
+    array-set-from-held
+    add-i
+    loop-less
+    loop-again
+    array-copy-out-head
+    state-fits-requires
     refused-requires-2
     returns-2
-    next-fits-requires
-    refused-requires-3
-    returns-3
-    pins-fit-requires
-    refused-requires-4
-    returns-4
-    hold-requires
-    held-fits-requires
-    refused-requires-5
-    returns-5
-    returns-6)
+    returns-3)

@@ -8,12 +8,6 @@ use Rattle.judge.proofs.Fitting.{pin-high, pin-free, pin-live}
 use Rattle.judge.proofs.pin_fits.Statement.{statement}
 use Rattle.judge.proofs.pin_fits.Tie as tie
 
-mul-pin : tie.Need-mul-pin
-mul-pin c = omega arith
-
-array-copy-out-pin : tie.Need-array-copy-out-pin
-array-copy-out-pin c = omega arith
-
 returns : tie.Need-returns
 returns c = pin-high _ _ _ (c .if1 .taken)
 
@@ -25,10 +19,10 @@ find-pin-requires c κs = omega arith
 
 returns-3 : tie.Need-returns-3
 returns-3 c =
-    let a = c .before .before .before .before .before .before .args in
-    let n : length (take (a .i) (a .t1)) ≡ a .i = length-take-le (a .i) (a .t1) (omega arith) in
+    let a = c .before .before .before .before .before .args in
+    let n : length (take (a .i) (a .pins)) ≡ a .i = length-take-le (a .i) (a .pins) (omega arith) in
     ap (eqb _) (sym n) ∙ pin-live _ _ _ (c .before .before .before .if1 .left) (c .before .if2 .left) _ (c .find-pin .ensures)
 
 pub pin-fits-spec : {M : Type 1} → statement M
 pin-fits-spec =
-    tie.close (tie.spec mul-pin array-copy-out-pin returns returns-2 find-pin-requires returns-3)
+    tie.close (tie.spec returns returns-2 find-pin-requires returns-3)

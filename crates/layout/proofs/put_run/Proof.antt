@@ -17,11 +17,11 @@ abbrev μ-loop : tie.MeasureT-loop
 mul-span : tie.Need-mul-span Inv-loop μ-loop
 mul-span c = omega arith
 
-rem-start : tie.Need-rem-start Inv-loop μ-loop
-rem-start c = omega arith
+around-requires : tie.Need-around-requires Inv-loop μ-loop
+around-requires c κs = omega arith
 
 add-start : tie.Need-add-start Inv-loop μ-loop
-add-start c = omega (arith, in-ring (c .args .bytes .now) (c .args .n) (c .args .p) (c .pre .0))
+add-start c = omega (arith, c .around .ensures, in-ring (c .before .before .before .args .bytes .now) (c .before .before .before .args .n) (c .before .before .before .args .p) (c .before .before .before .pre .0))
 
 loop-holds : tie.Need-loop-holds Inv-loop μ-loop
 loop-holds c = put-start _ _ _ _
@@ -33,7 +33,7 @@ add-bytes : tie.Need-add-bytes Inv-loop μ-loop
 add-bytes c = omega arith
 
 slice-write-bytes : tie.Need-slice-write-bytes Inv-loop μ-loop
-slice-write-bytes c = omega (arith, c .before .before .before .pre .0 .len, c .before .before .loop .inv .same)
+slice-write-bytes c = omega (arith, c .before .before .before .around .ensures, c .before .before .before .before .before .before .pre .0 .len, c .before .before .loop .inv .same)
 
 add-i : tie.Need-add-i Inv-loop μ-loop
 add-i c = omega arith
@@ -42,7 +42,7 @@ loop-less : tie.Need-loop-less Inv-loop μ-loop
 loop-less c = omega arith
 
 loop-again : tie.Need-loop-again Inv-loop μ-loop
-loop-again c = put-next _ _ _ _ _ _ (c .before .before .loop .inv) _ _ refl (omega arith) (omega arith) refl
+loop-again c = put-next _ _ _ _ _ _ (c .before .before .loop .inv) _ _ (omega (arith, c .before .before .before .around .ensures)) (omega arith) (omega arith) refl
 
 same-length : tie.Need-same-length Inv-loop μ-loop
 same-length c = c .before .loop .inv .same
@@ -57,7 +57,7 @@ put-run-spec =
     Inv-loop
     μ-loop
     mul-span
-    rem-start
+    around-requires
     add-start
     loop-holds
     shared-slice-read-bytes

@@ -1,7 +1,8 @@
 -- `layout::take_run` meets its contract. The invariant `Taking`: the front of the lent part is copied, the rest is as it was.
-use Prim.Native.Nat.{_-_}
-use mathlib.Core.Path.{sym}
-use lib.ListN.{length}
+use Prim.Native.Nat.{_+_, _-_}
+use mathlib.Core.Path.{sym, ap, _∙_}
+use lib.ListN.{length, getD}
+use Rattle.layout.specs.Sizes.{headerSize}
 use Rattle.layout.specs.Bytes.{round}
 use Rattle.layout.proofs.Views.{in-ring, round-flat}
 use Rattle.layout.proofs.Loops.{Taking, take-start, take-next, take-done}
@@ -18,11 +19,11 @@ abbrev μ-loop : tie.MeasureT-loop
 mul-span : tie.Need-mul-span Inv-loop μ-loop
 mul-span c = omega arith
 
-rem-start : tie.Need-rem-start Inv-loop μ-loop
-rem-start c = omega arith
+around-requires : tie.Need-around-requires Inv-loop μ-loop
+around-requires c κs = omega arith
 
 add-start : tie.Need-add-start Inv-loop μ-loop
-add-start c = omega (arith, in-ring (c .args .bytes .now) (c .args .n) (c .args .p) (c .pre .0))
+add-start c = omega (arith, c .around .ensures, in-ring (c .before .before .before .args .bytes .now) (c .before .before .before .args .n) (c .before .before .before .args .p) (c .before .before .before .pre .0))
 
 loop-holds : tie.Need-loop-holds Inv-loop μ-loop
 loop-holds c = take-start _ _ _
@@ -31,7 +32,7 @@ add-out : tie.Need-add-out Inv-loop μ-loop
 add-out c = omega arith
 
 shared-slice-read-out : tie.Need-shared-slice-read-out Inv-loop μ-loop
-shared-slice-read-out c = omega (arith, c .before .before .before .pre .0 .len)
+shared-slice-read-out c = omega (arith, c .before .before .before .around .ensures, c .before .before .before .before .before .before .pre .0 .len)
 
 slice-write-out : tie.Need-slice-write-out Inv-loop μ-loop
 slice-write-out c = omega arith
@@ -44,9 +45,11 @@ loop-less c = omega arith
 
 loop-again : tie.Need-loop-again Inv-loop μ-loop
 loop-again c =
-    let a = c .before .before .before .args in
+    let a = c .before .before .before .before .before .before .args in
     let l = c .before .before .loop in
-    take-next _ _ _ _ _ (l .inv) _ (omega arith) (sym (round-flat (a .bytes .now) (a .n) (a .p) (length (a .out .now)) (c .before .before .before .pre .1) .at (l .i) (omega arith)))
+    take-next _ _ _ _ _ (l .inv) _ (omega arith)
+    (ap (λ k. getD (a .bytes .now) (headerSize + k + l .i) 0) (c .before .before .before .around .ensures)
+    ∙ sym (round-flat (a .bytes .now) (a .n) (a .p) (length (a .out .now)) (c .before .before .before .before .before .before .pre .1) .at (l .i) (omega arith)))
 
 same-length : tie.Need-same-length Inv-loop μ-loop
 same-length c = c .before .loop .inv .same
@@ -61,7 +64,7 @@ take-run-spec =
     Inv-loop
     μ-loop
     mul-span
-    rem-start
+    around-requires
     add-start
     loop-holds
     add-out
