@@ -81,6 +81,11 @@ pub record AllCovered (es : List Entry) (n : ℕ) (qs : List Piece) : Type 0 whe
 unfoldable pub byteBy : (ℕ → ℕ) → List Entry → ℕ → ℕ → ℕ
 byteBy f es n p = let e = getD es (topOf es n p - 1) noEntry in getD (dataOf f e) (p - e .offset) 0
 
+-- a write laid on the bytes at start and behind it: its byte where it covers the place, else the one that was there
+pub record Painted (f : ℕ → ℕ) (e : Entry) (start : ℕ) (was is : List ℕ) : Type 0 where
+  pub same : length is ≡ length was
+  pub each : (k : ℕ) → k < length was → getD is k 0 ≡ pick (overlies (start + k) e) (getD (dataOf f e) (start + k - e .offset) 0) (getD was k 0)
+
 -- r is a place after p, at most e, and f is the same from p up to r
 pub record Steady {A : Type 0} (f : ℕ → A) (p e r : ℕ) : Type 0 where
   pub after : p < r

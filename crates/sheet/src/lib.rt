@@ -1,10 +1,10 @@
 // The flush sheet: which pieces a batch has, and their bytes in a lent buffer. Document 01, "Moves", paragraph "Sheet".
-// There is no sort and no heap: a walk over the places where the newest write can change finds the pieces; their bytes are copied by spans.
+// There is no sort and no heap: a walk over the places where the newest write can change finds the pieces; the writes are then painted into them, oldest first.
 use layout::Ring;
 use walk::Entry;
 ghost use mathlib.Core.Path.{_≡_};
 ghost use mathlib.Core.List.{_++_, map};
-ghost use Prim.Native.Nat.{_+_, _-_, _*_, _≤_, _<_};
+ghost use Prim.Native.Nat.{_+_, _-_, _*_, _≤_, _<_, min, max};
 ghost use lib.ListN.{length, take, drop, replicate};
 ghost use Rattle.layout.specs.Sizes.{fileEnd, largest};
 ghost use Rattle.walk.specs.Entry.{dataOf};
@@ -13,7 +13,7 @@ ghost use Rattle.layout.specs.Bytes.{Sized, bytes4, bytesAt, round};
 ghost use Rattle.state.specs.Batch.{mostBatch};
 ghost use Rattle.shore.specs.Cover.{spans};
 ghost use Rattle.sheet.specs.Sheet.{pieceSize, listOf, dataBy, sheetOf, laidAt};
-ghost use Rattle.sheet.specs.Places.{Batch, Laid, Covered, AllCovered, byteBy, total, Steady, First, Ends, FoundAt, keyAt, keyBy, overlies, grow, inOrder, noPiece, piecesFrom, laidIf, madeFrom};
+ghost use Rattle.sheet.specs.Places.{Batch, Laid, Covered, AllCovered, byteBy, Painted, total, Steady, First, Ends, FoundAt, keyAt, keyBy, overlies, grow, inOrder, noPiece, piecesFrom, laidIf, madeFrom};
 
 // The most writes of a batch, and so the most pieces of its sheet.
 pub const BATCH: usize = 32;
@@ -232,7 +232,42 @@ fn put_span(
     walk::entry_bytes(bytes, n, entry, from, &mut out[start..end]);
 }
 
-// The bytes of a piece, copied by spans: each from the newest write, as far as that is the newest.
+fn larger(a: usize, b: usize) -> usize
+    ensures { λ r. ⌜ r ≡ max a b ⌝ }
+{
+    if a < b {
+        return b;
+    }
+    a
+}
+
+fn lesser(a: usize, b: usize) -> usize
+    ensures { λ r. ⌜ r ≡ min a b ⌝ }
+{
+    if a < b {
+        return a;
+    }
+    b
+}
+
+// Paints a write over the places from `start` on: those that it covers get its bytes, the others stay.
+fn put_overlap(bytes: &[u8], n: usize, entry: Entry, start: usize, out: &mut [u8])
+    requires { ⌜ Sized (now bytes) n ⌝ }
+    requires { ⌜ (entry .slot < n) × (entry .length ≤ largest) × (entry .offset + entry .length ≤ fileEnd) ⌝ }
+    requires { ⌜ start + length (now out) ≤ fileEnd ⌝ }
+    ensures { λ _. ⌜ Painted (round (now (bytes .entry)) n) entry start (now (out .entry)) (now (out .exit)) ⌝ }
+{
+    let low = entry.offset as usize;
+    let high = low + entry.length as usize;
+    let from = larger(low, start);
+    let until = lesser(high, start + out.len());
+    if from < until {
+        let skip = from - low;
+        put_span(bytes, n, entry, skip, out, from - start, until - start);
+    }
+}
+
+// The bytes of a piece: each write is painted over the older ones, so the newest is seen, and no place is searched for.
 fn put_piece(
     bytes: &[u8],
     n: usize,
@@ -246,16 +281,11 @@ fn put_piece(
     requires { ⌜ (start + length (now out) ≤ fileEnd) × Covered entries count start (length (now out)) ⌝ }
     ensures { λ _. ⌜ now (out .exit) ≡ bytesAt (byteBy (round (now (bytes .entry)) n) entries count) start (length (now (out .entry))) ⌝ }
 {
-    let size = out.len();
     let mut i: usize = 0;
-    while i < size {
-        let p = start + i;
-        let found = find_at(entries, count, start + size, p);
-        let entry = entries[found.newest - 1];
-        let from = p - entry.offset as usize;
-        let until = found.until - start;
-        put_span(bytes, n, entry, from, out, i, until);
-        i = until;
+    while i < count {
+        let write = entries[i];
+        put_overlap(bytes, n, write, start, out);
+        i += 1;
     }
 }
 
