@@ -32,20 +32,20 @@ module _ (d m : List ℕ) (a b : ℕ) (h : a ≤ b) (n : b ≤ length d) (l : le
   both-long : length (take a d ++ m) ≡ b
   both-long = length-append (take a d) m ∙ omega (arith, front)
 
-  pub span-long : length put ≡ length d
+  span-long : length put ≡ length d
   span-long = length-append (take a d ++ m) (drop b d) ∙ omega (arith, both-long, length-drop b d)
 
-  pub span-before : (k : ℕ) → k < a → getD put k 0 ≡ getD d k 0
+  span-before : (k : ℕ) → k < a → getD put k 0 ≡ getD d k 0
   span-before k o =
       List·getD-append (take a d ++ m) (drop b d) 0 k (omega (arith, both-long)) ∙ List·getD-append (take a d) m 0 k (omega (arith, front)) ∙ getD-take a d k 0 o
 
-  pub span-in : (k : ℕ) → a ≤ k → k < b → getD put k 0 ≡ getD m (k - a) 0
+  span-in : (k : ℕ) → a ≤ k → k < b → getD put k 0 ≡ getD m (k - a) 0
   span-in k o p =
       let z : k ≡ length (take a d) + (k - a) = omega (arith, front) in
       List·getD-append (take a d ++ m) (drop b d) 0 k (omega (arith, both-long))
       ∙ ap (λ i. getD (take a d ++ m) i 0) z ∙ getD-append-add (take a d) m (k - a) 0
 
-  pub span-after : (k : ℕ) → b ≤ k → getD put k 0 ≡ getD d k 0
+  span-after : (k : ℕ) → b ≤ k → getD put k 0 ≡ getD d k 0
   span-after k o =
       let z : k ≡ length (take a d ++ m) + (k - b) = omega (arith, both-long) in
       let y : b + (k - b) ≡ k = omega arith in

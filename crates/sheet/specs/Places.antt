@@ -16,6 +16,7 @@ use Rattle.shore.specs.Cover.{spans}
 use Rattle.sheet.specs.declared.Piece.{Piece}
 use Rattle.sheet.specs.declared.Pieces.{Pieces}
 use Rattle.sheet.specs.declared.Found.{Found}
+use Rattle.sheet.specs.declared.Start.{Start}
 use Rattle.sheet.specs.declared.Made.{Made}
 use Rattle.sheet.specs.declared.Made.the-variants.{Sheet, Short}
 use Rattle.sheet.specs.Sheet.{pieceSize, piece, gather, laidAt}
@@ -96,6 +97,11 @@ pub record Steady {A : Type 0} (f : ℕ → A) (p e r : ℕ) : Type 0 where
 pub record FoundAt (es : List Entry) (n e p : ℕ) (r : Found) : Type 0 where
   pub newest : r .newest ≡ topOf es n p
   pub until : Steady (topOf es n) p e (r .until)
+
+-- what is known of a piece's start: its key, and a place up to which the key stays so
+pub record StartAt (key : ℕ → ℕ) (e : ℕ) (s : Start) : Type 0 where
+  pub known : s .key ≡ key (s .place)
+  pub until : Steady key (s .place) e (s .until)
 
 -- r is the first covered place from a on, or e
 pub record First (key : ℕ → ℕ) (a e r : ℕ) : Type 0 where
