@@ -80,7 +80,7 @@ module _ (es : List Entry) (p : ℕ) where
   top-by n false e k h = let z = k h in (omega (arith, z .0), z .1)
 
   -- the newest that was found covers the place
-  pub top-covers : (n : ℕ) → 0 < topOf es n p → (topOf es n p ≤ n) × (overlies p (getD es (topOf es n p - 1) noEntry) ≡ true)
+  top-covers : (n : ℕ) → 0 < topOf es n p → (topOf es n p ≤ n) × (overlies p (getD es (topOf es n p - 1) noEntry) ≡ true)
   unfolding topOf
   top-covers zero h = absurd (let k : 0 < 0 = h in omega arith)
   top-covers (suc n) h = top-by n (overlies p (getD es n noEntry)) refl (top-covers n) h

@@ -4,7 +4,7 @@ pub mod Few
 pub mod Walking
 pub mod Collecting
 pub mod Storing
-pub mod Spanning
+pub mod Painting
 pub mod Cutting
 pub mod Covered
 pub mod Reading

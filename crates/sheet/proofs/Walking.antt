@@ -1,5 +1,5 @@
 -- The walk over places: how far the newest write stays the same, the next start, the piece's end.
-use Prim.Native.Nat.{ℕ, zero, suc, _+_, _≤_, _<_}
+use Prim.Native.Nat.{ℕ, zero, suc, _+_, _≤_, _<_, min}
 use native.Mathlib.Nat.{eq-or-lt-of-le}
 use native.Mathlib.Numerals.{add-one}
 use native.Mathlib.Omega.{arith}
@@ -39,6 +39,10 @@ module _ (o l p e r : ℕ) (a : p < r) (m : r ≤ e) where
     most = m;
     same = λ q x y. spans-after o l q (omega arith) ∙ sym (spans-after o l p (omega arith));
   }
+
+-- and so up to any place before
+pub steady-cut : {A : Type 0} (f : ℕ → A) (p e r l t : ℕ) → Steady f p e r → p < t → t ≤ r → t ≤ l → Steady f p l t
+steady-cut f p e r l t s a h m = record { after = a; most = m; same = λ q x y. s .same q x (omega arith) }
 
 -- ---- and how far the newest of the first n stays the newest
 
@@ -109,22 +113,24 @@ module _ (c : ℕ → ℕ) where
   pub through-first : (a e s : ℕ) → Through c 0 a e s → (s < e → 0 < c s) → First c a e s
   through-first a e s g h = record { from = g .from; most = g .most; bare = g .each; here = h }
 
-  pub ends-other : (s e l r : ℕ) → Through c (c s) s l r → (c r ≡ c s → ⊥) → l ≤ e → l ≤ s + pieceSize → Ends c s e r
-  ends-other s e l r g f m k = record {
-    after = ⊎-elim (λ x. absurd (f (ap c (sym x)))) (λ x. x) (eq-or-lt-of-le (g .from));
-    most = omega (arith, g .most);
-    held = g .each;
-    fits = omega (arith, g .most);
-    bare = λ _ _. f;
-  }
+  -- l is the limit: the end, or that of a full piece
+  module _ (s e l r : ℕ) (m : l ≡ min e (s + pieceSize)) (g : Through c (c s) s l r) where
+    pub ends-other : (c r ≡ c s → ⊥) → Ends c s e r
+    ends-other f = record {
+      after = ⊎-elim (λ x. absurd (f (ap c (sym x)))) (λ x. x) (eq-or-lt-of-le (g .from));
+      most = omega (arith, g .most);
+      held = g .each;
+      fits = omega (arith, g .most);
+      bare = λ _ _. f;
+    }
 
-  pub ends-full : (s e l r : ℕ) → Through c (c s) s l r → l ≤ r → s < l → l ≤ e → l ≤ s + pieceSize → (l < s + pieceSize → l ≡ e) → Ends c s e r
-  ends-full s e l r g h a m k o =
-      let x : r ≡ l = omega (arith, g .most) in
-      record {
-        after = omega arith;
-        most = omega arith;
-        held = g .each;
-        fits = omega arith;
-        bare = λ u v. absurd (let w : l ≡ e = o (omega arith) in omega arith);
-      }
+    pub ends-full : s < e → l ≤ r → Ends c s e r
+    ends-full a h =
+        let x : r ≡ l = omega (arith, g .most) in
+        record {
+          after = omega arith;
+          most = omega arith;
+          held = g .each;
+          fits = omega arith;
+          bare = λ u v. absurd (omega arith);
+        }

@@ -16,6 +16,7 @@ use Rattle.shore.specs.Cover.{spans}
 use Rattle.sheet.specs.declared.Piece.{Piece}
 use Rattle.sheet.specs.declared.Pieces.{Pieces}
 use Rattle.sheet.specs.declared.Found.{Found}
+use Rattle.sheet.specs.declared.Start.{Start}
 use Rattle.sheet.specs.declared.Made.{Made}
 use Rattle.sheet.specs.declared.Made.the-variants.{Sheet, Short}
 use Rattle.sheet.specs.Sheet.{pieceSize, piece, gather, laidAt}
@@ -81,6 +82,11 @@ pub record AllCovered (es : List Entry) (n : ℕ) (qs : List Piece) : Type 0 whe
 unfoldable pub byteBy : (ℕ → ℕ) → List Entry → ℕ → ℕ → ℕ
 byteBy f es n p = let e = getD es (topOf es n p - 1) noEntry in getD (dataOf f e) (p - e .offset) 0
 
+-- a write laid on the bytes at start and behind it: its byte where it covers the place, else the one that was there
+pub record Painted (f : ℕ → ℕ) (e : Entry) (start : ℕ) (was is : List ℕ) : Type 0 where
+  pub same : length is ≡ length was
+  pub each : (k : ℕ) → k < length was → getD is k 0 ≡ pick (overlies (start + k) e) (getD (dataOf f e) (start + k - e .offset) 0) (getD was k 0)
+
 -- r is a place after p, at most e, and f is the same from p up to r
 pub record Steady {A : Type 0} (f : ℕ → A) (p e r : ℕ) : Type 0 where
   pub after : p < r
@@ -91,6 +97,11 @@ pub record Steady {A : Type 0} (f : ℕ → A) (p e r : ℕ) : Type 0 where
 pub record FoundAt (es : List Entry) (n e p : ℕ) (r : Found) : Type 0 where
   pub newest : r .newest ≡ topOf es n p
   pub until : Steady (topOf es n) p e (r .until)
+
+-- what is known of a piece's start: its key, and a place up to which the key stays so
+pub record StartAt (key : ℕ → ℕ) (e : ℕ) (s : Start) : Type 0 where
+  pub known : s .key ≡ key (s .place)
+  pub until : Steady key (s .place) e (s .until)
 
 -- r is the first covered place from a on, or e
 pub record First (key : ℕ → ℕ) (a e r : ℕ) : Type 0 where

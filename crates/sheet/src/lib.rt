@@ -1,10 +1,10 @@
 // The flush sheet: which pieces a batch has, and their bytes in a lent buffer. Document 01, "Moves", paragraph "Sheet".
-// There is no sort and no heap: a walk over the places where the newest write can change finds the pieces; their bytes are copied by spans.
+// There is no sort and no heap: a walk over the places where the newest write can change finds the pieces; the writes are then painted into them, oldest first.
 use layout::Ring;
 use walk::Entry;
 ghost use mathlib.Core.Path.{_≡_};
 ghost use mathlib.Core.List.{_++_, map};
-ghost use Prim.Native.Nat.{_+_, _-_, _*_, _≤_, _<_};
+ghost use Prim.Native.Nat.{_+_, _-_, _*_, _≤_, _<_, min, max};
 ghost use lib.ListN.{length, take, drop, replicate};
 ghost use Rattle.layout.specs.Sizes.{fileEnd, largest};
 ghost use Rattle.walk.specs.Entry.{dataOf};
@@ -12,8 +12,8 @@ ghost use Rattle.walk.specs.Walk.{writeOf};
 ghost use Rattle.layout.specs.Bytes.{Sized, bytes4, bytesAt, round};
 ghost use Rattle.state.specs.Batch.{mostBatch};
 ghost use Rattle.shore.specs.Cover.{spans};
-ghost use Rattle.sheet.specs.Sheet.{pieceSize, listOf, dataBy, sheetOf, laidAt};
-ghost use Rattle.sheet.specs.Places.{Batch, Laid, Covered, AllCovered, byteBy, total, Steady, First, Ends, FoundAt, keyAt, keyBy, overlies, grow, inOrder, noPiece, piecesFrom, laidIf, madeFrom};
+ghost use Rattle.sheet.specs.Sheet.{listOf, dataBy, sheetOf, laidAt};
+ghost use Rattle.sheet.specs.Places.{Batch, Laid, Covered, AllCovered, byteBy, Painted, total, Steady, First, Ends, FoundAt, StartAt, keyAt, keyBy, overlies, grow, inOrder, noPiece, piecesFrom, laidIf, madeFrom};
 
 // The most writes of a batch, and so the most pieces of its sheet.
 pub const BATCH: usize = 32;
@@ -39,6 +39,31 @@ pub struct Pieces {
 pub struct Found {
     pub newest: usize,
     pub until: usize,
+}
+
+// Where a piece starts, its key, and a place up to which the key stays so.
+struct Start {
+    place: usize,
+    key: usize,
+    until: usize,
+}
+
+fn larger(a: usize, b: usize) -> usize
+    ensures { λ r. ⌜ r ≡ max a b ⌝ }
+{
+    if a < b {
+        return b;
+    }
+    a
+}
+
+fn lesser(a: usize, b: usize) -> usize
+    ensures { λ r. ⌜ r ≡ min a b ⌝ }
+{
+    if a < b {
+        return a;
+    }
+    b
 }
 
 // The key of a place: 0 where no write covers it.
@@ -75,15 +100,10 @@ fn nearer(entry: Entry, p: usize, end: usize) -> usize
     let start = entry.offset as usize;
     let size = entry.length as usize;
     if p < start {
-        if start < end {
-            return start;
-        }
-        return end;
+        return lesser(start, end);
     }
     if p < start + size {
-        if start + size < end {
-            return start + size;
-        }
+        return lesser(start + size, end);
     }
     end
 }
@@ -109,41 +129,40 @@ fn find_at(entries: [Entry; BATCH], count: usize, end: usize, p: usize) -> Found
 }
 
 // The first covered place from `at` on, or end.
-fn next_start(entries: [Entry; BATCH], count: usize, end: usize, at: usize) -> usize
+fn next_start(entries: [Entry; BATCH], count: usize, end: usize, at: usize) -> Start
     requires { ⌜ Batch entries count ⌝ }
     requires { ⌜ at ≤ end ⌝ }
-    ensures { λ r. ⌜ First (keyBy entries count) at end r ⌝ }
+    ensures { λ r. ⌜ First (keyBy entries count) at end (r .place) × (r .place < end → StartAt (keyBy entries count) end r) ⌝ }
 {
     let mut s = at;
     while s < end {
         let found = find_at(entries, count, end, s);
         if 0 < found.newest {
-            return s;
+            return Start {
+                place: s,
+                key: key_of(found.newest),
+                until: found.until,
+            };
         }
         s = found.until;
     }
-    s
-}
-
-// The lesser of end and s + 4,096.
-fn limit(end: usize, s: usize) -> usize
-    requires { ⌜ (s < end) × (end ≤ fileEnd) ⌝ }
-    ensures { λ r. ⌜ (s < r) × (r ≤ end) × (r ≤ s + pieceSize) × (r < s + pieceSize → r ≡ end) ⌝ }
-{
-    if end - s < PIECE {
-        return end;
+    Start {
+        place: s,
+        key: 0,
+        until: s,
     }
-    s + PIECE
 }
 
-// Where the piece that starts at s ends.
-fn piece_end(entries: [Entry; BATCH], count: usize, end: usize, s: usize, key: usize) -> usize
+// Where the piece with that start ends. What the start knows already isn't searched for again.
+fn piece_end(entries: [Entry; BATCH], count: usize, end: usize, start: Start) -> usize
     requires { ⌜ Batch entries count ⌝ }
-    requires { ⌜ (s < end) × (end ≤ fileEnd) × key ≡ keyBy entries count s ⌝ }
-    ensures { λ r. ⌜ Ends (keyBy entries count) s end r ⌝ }
+    requires { ⌜ (start .place < end) × (end ≤ fileEnd) × StartAt (keyBy entries count) end start ⌝ }
+    ensures { λ r. ⌜ Ends (keyBy entries count) (start .place) end r ⌝ }
 {
-    let last = limit(end, s);
-    let mut e = s;
+    let s = start.place;
+    let key = start.key;
+    let last = lesser(end, s + PIECE);
+    let mut e = lesser(start.until, last);
     while e < last {
         let found = find_at(entries, count, last, e);
         if key_of(found.newest) != key {
@@ -152,16 +171,6 @@ fn piece_end(entries: [Entry; BATCH], count: usize, end: usize, s: usize, key: u
         e = found.until;
     }
     e
-}
-
-// The key of a place.
-fn key_at(entries: [Entry; BATCH], count: usize, p: usize) -> usize
-    requires { ⌜ Batch entries count ⌝ }
-    requires { ⌜ p < fileEnd ⌝ }
-    ensures { λ r. ⌜ r ≡ keyBy entries count p ⌝ }
-{
-    let found = find_at(entries, count, p + 1, p);
-    key_of(found.newest)
 }
 
 fn no_pieces() -> [Piece; BATCH]
@@ -184,16 +193,16 @@ pub fn pieces_of(entries: [Entry; BATCH], count: usize) -> Pieces
     let mut many: usize = 0;
     let mut size: usize = 0;
     let mut s = next_start(entries, count, end, 0);
-    while s < end {
-        let key = key_at(entries, count, s);
-        let e = piece_end(entries, count, end, s, key);
+    while s.place < end {
+        let e = piece_end(entries, count, end, s);
+        let bytes = e - s.place;
         list[many] = Piece {
-            start: s,
-            size: e - s,
-            key,
+            start: s.place,
+            size: bytes,
+            key: s.key,
         };
         many += 1;
-        size += e - s;
+        size += bytes;
         s = next_start(entries, count, end, e);
     }
     Pieces {
@@ -232,7 +241,24 @@ fn put_span(
     walk::entry_bytes(bytes, n, entry, from, &mut out[start..end]);
 }
 
-// The bytes of a piece, copied by spans: each from the newest write, as far as that is the newest.
+// Paints a write over the places from `start` on: those that it covers get its bytes, the others stay.
+fn put_overlap(bytes: &[u8], n: usize, entry: Entry, start: usize, out: &mut [u8])
+    requires { ⌜ Sized (now bytes) n ⌝ }
+    requires { ⌜ (entry .slot < n) × (entry .length ≤ largest) × (entry .offset + entry .length ≤ fileEnd) ⌝ }
+    requires { ⌜ start + length (now out) ≤ fileEnd ⌝ }
+    ensures { λ _. ⌜ Painted (round (now (bytes .entry)) n) entry start (now (out .entry)) (now (out .exit)) ⌝ }
+{
+    let low = entry.offset as usize;
+    let high = low + entry.length as usize;
+    let from = larger(low, start);
+    let until = lesser(high, start + out.len());
+    if from < until {
+        let skip = from - low;
+        put_span(bytes, n, entry, skip, out, from - start, until - start);
+    }
+}
+
+// The bytes of a piece: each write is painted over the older ones, so the newest is seen, and no place is searched for.
 fn put_piece(
     bytes: &[u8],
     n: usize,
@@ -246,16 +272,11 @@ fn put_piece(
     requires { ⌜ (start + length (now out) ≤ fileEnd) × Covered entries count start (length (now out)) ⌝ }
     ensures { λ _. ⌜ now (out .exit) ≡ bytesAt (byteBy (round (now (bytes .entry)) n) entries count) start (length (now (out .entry))) ⌝ }
 {
-    let size = out.len();
     let mut i: usize = 0;
-    while i < size {
-        let p = start + i;
-        let found = find_at(entries, count, start + size, p);
-        let entry = entries[found.newest - 1];
-        let from = p - entry.offset as usize;
-        let until = found.until - start;
-        put_span(bytes, n, entry, from, out, i, until);
-        i = until;
+    while i < count {
+        let write = entries[i];
+        put_overlap(bytes, n, write, start, out);
+        i += 1;
     }
 }
 

@@ -11,29 +11,30 @@ cast-start c = search needs
 cast-size : tie.Need-cast-size
 cast-size c = search needs
 
+lesser-requires : tie.Need-lesser-requires
+lesser-requires c κs = search needs
+
 returns : tie.Need-returns
-returns c = steady-before _ _ _ _ _ (omega arith) (omega arith) (omega arith)
+returns c =
+    let l = c .lesser .ensures in
+    steady-before _ _ _ _ _ (omega arith) (omega arith) (omega arith)
+
+add-if2 : tie.Need-add-if2
+add-if2 c = search needs
+
+add-lesser : tie.Need-add-lesser
+add-lesser c = search needs
+
+lesser-requires-2 : tie.Need-lesser-requires-2
+lesser-requires-2 c κs = search needs
 
 returns-2 : tie.Need-returns-2
-returns-2 c = steady-before _ _ _ _ _ (omega arith) (omega arith) (omega arith)
-
-add-if3 : tie.Need-add-if3
-add-if3 c = search needs
-
-add-if4 : tie.Need-add-if4
-add-if4 c = search needs
-
-add-result : tie.Need-add-result
-add-result c = search needs
+returns-2 c =
+    let l = c .lesser2 .ensures in
+    steady-in _ _ _ _ _ (omega arith) (omega arith) (omega arith) (omega arith)
 
 returns-3 : tie.Need-returns-3
-returns-3 c = steady-in _ _ _ _ _ (omega arith) (omega arith) (omega arith) (omega arith)
-
-returns-4 : tie.Need-returns-4
-returns-4 c = steady-in _ _ _ _ _ (omega arith) (omega arith) (omega arith) (omega arith)
-
-returns-5 : tie.Need-returns-5
-returns-5 c = steady-after _ _ _ _ _ (omega arith) (omega arith) (omega arith)
+returns-3 c = steady-after _ _ _ _ _ (omega arith) (omega arith) (omega arith)
 
 pub nearer-spec : {M : Type 1} → statement M
 nearer-spec =
@@ -41,11 +42,10 @@ nearer-spec =
     (tie.spec
     cast-start
     cast-size
+    lesser-requires
     returns
+    add-if2
+    add-lesser
+    lesser-requires-2
     returns-2
-    add-if3
-    add-if4
-    add-result
-    returns-3
-    returns-4
-    returns-5)
+    returns-3)
