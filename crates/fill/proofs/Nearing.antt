@@ -1,13 +1,13 @@
 -- The writes that touch a part of a node's file: the pass that chooses them, and that no other write decides a byte of the part.
-use Prim.Native.Nat.{ℕ, suc, _+_, _≤_, _<_}
+use Prim.Native.Nat.{ℕ, _+_, _≤_, _<_}
 use mathlib.Core.Path.{_≡_, refl, sym, ap, _∙_}
 use mathlib.Core.Bool.{Bool, true, false}
-use mathlib.Core.List.{List, [], _∷_, _++_, append-assoc, append-nil}
+use mathlib.Core.List.{List, [], _∷_, _++_, append-nil}
 use native.Mathlib.Omega.{arith}
 use native.Mathlib.Numerals.{add-one}
 use borrow.Author.Tests.{lt-ltb}
-use lib.ListN.{length, take, drop, getD, set, length-append}
-use lib.Seq.{take-suc, take-at, drop-cons, set-at}
+use lib.ListN.{length, take, getD, set, length-set}
+use lib.Seq.{take-suc, take-set-le, getD-set-same}
 use Rattle.layout.specs.declared.Ring.{Ring}
 use Rattle.layout.proofs.Tests.{both-left}
 use Rattle.state.specs.declared.Held.{Held}
@@ -16,23 +16,22 @@ use Rattle.state.specs.Asks.{endOf}
 use Rattle.state.proofs.Bools.{both-intro}
 use Rattle.state.proofs.Those.{those-append}
 use Rattle.rules.specs.Fill.{isOf, writesFor}
-use Rattle.fill.specs.declared.Near.{Near}
-use Rattle.fill.specs.Overlay.{isOver, isNear, inFront, nearOf, overlaid}
+use Rattle.fill.specs.Overlay.{isOver, isNear, overlaid}
 use Rattle.fill.proofs.Seeking.{over-inside, byte-those}
 use Rattle.fill.proofs.Overlaying.{over-same}
 
--- ---- the pass: those of the first i that pass the test stand in front, and behind them what stood there
+-- ---- the pass: those of the first i that pass the test stand in front of an array
 
 pub record Choosing (q : Held → Bool) (l : List Held) (n : ℕ) (out : List Held) (many i : ℕ) : Type 0 where
   pub upto : i ≤ n
   pub within : n ≤ length l
+  pub room : n ≤ length out
   pub few : many ≤ i
-  pub counted : many ≡ length (those q (take i l))
-  pub standing : out ≡ those q (take i l) ++ drop many l
+  pub front : take many out ≡ those q (take i l)
 
 module _ (q : Held → Bool) (l : List Held) (n : ℕ) where
-  pub choose-start : n ≤ length l → Choosing q l n l 0 0
-  choose-start h = record { upto = omega arith; within = h; few = omega arith; counted = refl; standing = refl }
+  pub choose-start : (out : List Held) → n ≤ length l → n ≤ length out → Choosing q l n out 0 0
+  choose-start out h r = record { upto = omega arith; within = h; room = r; few = omega arith; front = refl }
 
   module _ (out : List Held) (many i : ℕ) (k : Choosing q l n out many i) where
     module _ (h : i < n) where
@@ -48,33 +47,29 @@ module _ (q : Held → Bool) (l : List Held) (n : ℕ) where
 
       yes : q x ≡ true → Choosing q l n (set out many x) (many + 1) (i + 1)
       yes e =
-          let w = k .within in
           let f = k .few in
-          let c = k .counted in
-          let ks : List Held = those q (take i l) in
-          let m : those q (take (i + 1) l) ≡ ks ++ x ∷ [] = more true e in
-          let u = length-append ks (x ∷ []) in
+          let r = k .room in
+          let s : length (set out many x) ≡ length out = length-set out many x in
           record {
             upto = omega arith;
-            within = w;
+            within = k .within;
+            room = omega arith;
             few = omega arith;
-            counted = ap (λ j. j + 1) c ∙ sym (ap length m ∙ u);
-            standing =
-                ap (λ o. set o many x) (k .standing ∙ ap (_++_ ks) (drop-cons l many noHeld (omega arith)))
-                ∙ set-at ks (getD l many noHeld) (drop (suc many) l) x many (sym c) ∙ sym (append-assoc ks (x ∷ []) (drop (suc many) l))
-                ∙ ap (λ hs. hs ++ drop (suc many) l) (sym m) ∙ ap (λ j. those q (take (i + 1) l) ++ drop j l) (sym (add-one many));
+            front =
+                ap (λ j. take j (set out many x)) (add-one many) ∙ take-suc (set out many x) many noHeld (omega arith)
+                ∙ ap (λ y. take many (set out many x) ++ y ∷ []) (getD-set-same out many x noHeld (omega arith))
+                ∙ ap (λ ys. ys ++ x ∷ []) (take-set-le many out many x (omega arith) ∙ k .front) ∙ sym (more true e);
           }
 
       no : q x ≡ false → Choosing q l n out many (i + 1)
       no e =
           let f = k .few in
-          let m : those q (take (i + 1) l) ≡ those q (take i l) = more false e ∙ append-nil (those q (take i l)) in
           record {
             upto = omega arith;
             within = k .within;
+            room = k .room;
             few = omega arith;
-            counted = k .counted ∙ ap length (sym m);
-            standing = k .standing ∙ ap (λ hs. hs ++ drop many l) (sym m);
+            front = k .front ∙ sym (more false e ∙ append-nil (those q (take i l)));
           }
 
       -- the same of what the code stores
@@ -84,13 +79,11 @@ module _ (q : Held → Bool) (l : List Held) (n : ℕ) where
       pub choose-no : (out′ : List Held) (many′ : ℕ) → q x ≡ false → out′ ≡ out → many′ ≡ many → Choosing q l n out′ many′ (i + 1)
       choose-no out′ many′ e a b = rw (a, b) (no e)
 
-    pub choose-end : n ≤ i → record { count = many; held = out } ≡ inFront (those q (take n l)) l
+    pub choose-end : n ≤ i → take many out ≡ those q (take n l)
     choose-end h =
         let u = k .upto in
         let z : i ≡ n = omega arith in
-        let c : many ≡ length (those q (take n l)) = k .counted ∙ ap (λ j. length (those q (take j l))) z in
-        let s : out ≡ those q (take n l) ++ drop many l = k .standing ∙ ap (λ j. those q (take j l) ++ drop many l) z in
-        rw (s, c)
+        k .front ∙ ap (λ j. those q (take j l)) z
 
 -- ---- a write that is over a place of the part is among those chosen, so no other decides a byte of it
 
@@ -102,10 +95,8 @@ module _ (node from end : ℕ) where
       let m = k .1 in
       both-intro _ _ (both-left (isOf node h) _ e) (both-intro _ _ (lt-ltb (h .entry .offset) end (omega arith)) (lt-ltb from (endOf h) (omega arith)))
 
-  pub near-same : (held : List Held) (count : ℕ) (n : Near) → n ≡ nearOf node from end held count → (r : List ℕ) (g : Ring) (bs : List ℕ) → from + length bs ≤ end
-      → overlaid (writesFor node r g (take (n .count) (n .held))) from bs ≡ overlaid (writesFor node r g (take count held)) from bs
-  near-same held count n e r g bs h =
-      let hs : List Held = those (isNear node from end) (take count held) in
-      ap (λ m. overlaid (writesFor node r g (take (m .count) (m .held))) from bs) e
-      ∙ ap (λ ks. overlaid (writesFor node r g ks) from bs) (take-at hs (drop (length hs) held) (length hs) refl)
+  pub near-same : (held near : List Held) (count many : ℕ) → take many near ≡ those (isNear node from end) (take count held) → (r : List ℕ) (g : Ring) (bs : List ℕ)
+      → from + length bs ≤ end → overlaid (writesFor node r g (take many near)) from bs ≡ overlaid (writesFor node r g (take count held)) from bs
+  near-same held near count many e r g bs h =
+      ap (λ ks. overlaid (writesFor node r g ks) from bs) e
       ∙ over-same _ _ from bs (λ p b u v. byte-those node r g p (isNear node from end) (over-near p u (omega arith)) b (take count held))

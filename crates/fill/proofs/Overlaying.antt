@@ -6,7 +6,7 @@ use native.Mathlib.Nat.{add-zero, add-suc, suc-add, sub-zero, le-of-suc-le-suc}
 use native.Mathlib.Numerals.{add-one}
 use native.Mathlib.Omega.{arith}
 use borrow.Author.Tests.{lt-ltb, le-ltb}
-use borrow.Rule.Slice.PartMut.{midOf, postOf, putMid, same-len-mid, post-is, mid-len}
+use borrow.Rule.Slice.PartMut.{midOf, postOf, putMid, same-len-mid, post-is, mid-len, put-same}
 use lib.ListN.{length, take, drop, getD, set, replicate, length-set, length-append, length-drop}
 use lib.Seq.{take-suc, take-add, take-at, take-length, drop-at, drop-cons, drop-length, set-at, getD-at, length-take-le}
 use Rattle.layout.specs.Bytes.{bytesAt}
@@ -34,6 +34,11 @@ over-same ws vs p [] k = refl
 over-same ws vs p (b ∷ bs) k =
     ap (λ x. x ∷ overlaid ws (suc p) bs) (k p b (omega arith) (omega arith))
     ∙ ap (_∷_ (byteOver p b vs)) (over-same ws vs (suc p) bs (λ q c h l. k q c (omega arith) (omega arith)))
+
+pub over-none : (p : ℕ) (bs : List ℕ) → overlaid [] p bs ≡ bs
+unfolding overlaid byteOver
+over-none p [] = refl
+over-none p (b ∷ bs) = ap (_∷_ b) (over-none (suc p) bs)
 
 module _ (ws : List Write) where
   over-length : (p : ℕ) (bs : List ℕ) → length (overlaid ws p bs) ≡ length bs
@@ -102,6 +107,10 @@ module _ (ws : List Write) where
                 ∙ ap (λ d. front ++ (ys ++ drop (e - k) d)) rest ∙ ap (λ d. front ++ (ys ++ d)) (post-is k e out₀ h)
                 ∙ sym (append-assoc front ys (drop e out₀)) ∙ ap (λ f. f ++ drop e out₀) (sym whole);
           }
+
+      -- nothing is laid on the part up to e
+      pub lay-skip : (e : ℕ) → k ≤ e → e ≤ length out₀ → overlaid ws (from + k) (midOf k (e - k) out) ≡ midOf k (e - k) out → Laying from out₀ out e
+      lay-skip e h l y = rw (put-same k (e - k) out) at (lay-part e (midOf k (e - k) out) h l (sym y))
 
       pub lay-done : length out₀ ≤ k → out ≡ overlaid ws from out₀
       lay-done h =

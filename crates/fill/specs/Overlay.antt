@@ -1,18 +1,15 @@
 -- What a fill's helpers give: the pin and the writes that they look for, and bytes laid over. Document 01, "Moves", paragraph "Fill".
 use Prim.Native.Nat.{ℕ, suc}
 use mathlib.Core.Bool.{Bool}
-use mathlib.Core.List.{List, [], _∷_, _++_}
+use mathlib.Core.List.{List, [], _∷_}
 use lib.Dec.{eqb, ltb}
-use lib.ListN.{length, take, drop}
 use Rattle.layout.specs.Bytes.{both}
 use Rattle.walk.specs.Walk.{Write}
 use Rattle.state.specs.declared.Held.{Held}
 use Rattle.state.specs.declared.Pin.{Pin}
-use Rattle.state.specs.Lists.{those}
 use Rattle.state.specs.Asks.{endOf}
 use Rattle.shore.specs.Cover.{spans, byteOver}
 use Rattle.rules.specs.Fill.{isOf}
-use Rattle.fill.specs.declared.Near.{Near}
 
 -- "of that number for that very node"
 abbrev pub isNamed : ℕ → ℕ → Pin → Bool
@@ -25,14 +22,6 @@ isOver node p h = both (isOf node h) (spans (h .entry .offset) (h .entry .length
 -- a write is the node's and touches the places from one up to an end
 abbrev pub isNear : ℕ → ℕ → ℕ → Held → Bool
 isNear node from end h = both (isOf node h) (both (ltb (h .entry .offset) end) (ltb from (endOf h)))
-
--- writes in front of an array; what stands behind them stays
-abbrev pub inFront : List Held → List Held → Near
-inFront hs held = record { count = length hs; held = hs ++ drop (length hs) held }
-
--- of the first count held writes
-abbrev pub nearOf : ℕ → ℕ → ℕ → List Held → ℕ → Near
-nearOf node from end held count = inFront (those (isNear node from end) (take count held)) held
 
 -- "Each byte .. is that of the newest ring entry that covers it", else as it was: of bytes that stand in the file from place p on
 unfoldable pub overlaid : List Write → ℕ → List ℕ → List ℕ

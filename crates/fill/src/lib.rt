@@ -23,7 +23,7 @@ ghost use Rattle.rules.specs.Refusals.{own};
 ghost use Rattle.rules.specs.Known.{Known};
 ghost use Rattle.rules.specs.Outcome.{outcome, lentBy};
 ghost use Rattle.fill.specs.Answers.{saidFill, mayOf};
-ghost use Rattle.fill.specs.Overlay.{isNamed, isOver, isNear, nearOf, overlaid};
+ghost use Rattle.fill.specs.Overlay.{isNamed, isOver, isNear, overlaid};
 
 // The count of bytes that the host may show.
 pub enum Filled {
@@ -40,14 +40,8 @@ enum May {
 // The longest buffer of a fill.
 pub const LONGEST: usize = 65536;
 
-// So many bytes are laid over at a time: 512 was quicker than 256 and 1,024. No byte depends on it.
+// So many bytes are laid over at a time: 512 was quicker than 256 and 128. No byte depends on it.
 const BLOCK: usize = 512;
-
-// Writes chosen from those held: they stand in front, in order, and behind them what stood there.
-struct Near {
-    count: usize,
-    held: [Held; Ring::ENTRIES],
-}
 
 // ---- the refusals behind 8 and 12
 
@@ -175,28 +169,6 @@ fn is_near(held: Held, node: u32, from: usize, end: usize) -> bool
     from < stop
 }
 
-// The node's writes that touch its file from a place up to an end.
-fn near_of(held: [Held; Ring::ENTRIES], count: usize, node: u32, from: usize, end: usize) -> Near
-    requires { ⌜ count ≤ mostEntries ⌝ }
-    ensures { λ r. ⌜ (r ≡ nearOf node from end held count) × (r .count ≤ count) ⌝ }
-{
-    let mut out = held;
-    let mut many: usize = 0;
-    let mut i: usize = 0;
-    while i < count {
-        let one = held[i];
-        if is_near(one, node, from, end) {
-            out[many] = one;
-            many += 1;
-        }
-        i += 1;
-    }
-    Near {
-        count: many,
-        held: out,
-    }
-}
-
 // Where the block that begins at k ends.
 fn block_end(k: usize, n: usize) -> usize
     requires { ⌜ k < n ⌝ }
@@ -208,7 +180,8 @@ fn block_end(k: usize, n: usize) -> usize
     k + BLOCK
 }
 
-// The same as `overlay`, block by block: most held writes don't touch a block, and the search for its bytes passes over those no more.
+// The same as `overlay`, block by block: the writes that touch a block are chosen first, and only those are searched for its bytes. Most blocks
+// have none. The choosing stands here, since a function of its own would hand back ten kilobytes for each block.
 fn overlay_blocks(
     bytes: &[u8],
     ring: Ring,
@@ -222,20 +195,23 @@ fn overlay_blocks(
     requires { ⌜ (count ≤ mostEntries) × (from + length (now out) ≤ fileEnd) ⌝ }
     ensures { λ _. ⌜ now (out .exit) ≡ overlaid (writesFor node (now (bytes .entry)) ring (take count held)) from (now (out .entry)) ⌝ }
 {
+    let mut near = held;
     let mut k: usize = 0;
     while k < out.len() {
         let end = block_end(k, out.len());
-        let near = near_of(held, count, node, from + k, from + end);
-        let chosen = near.held;
-        overlay(
-            bytes,
-            ring,
-            chosen,
-            near.count,
-            node,
-            from + k,
-            &mut out[k..end],
-        );
+        let mut many: usize = 0;
+        let mut i: usize = 0;
+        while i < count {
+            let one = held[i];
+            if is_near(one, node, from + k, from + end) {
+                near[many] = one;
+                many += 1;
+            }
+            i += 1;
+        }
+        if 0 < many {
+            overlay(bytes, ring, near, many, node, from + k, &mut out[k..end]);
+        }
         k = end;
     }
 }
