@@ -272,11 +272,11 @@ fn put_piece(
     requires { ⌜ (start + length (now out) ≤ fileEnd) × Covered entries count start (length (now out)) ⌝ }
     ensures { λ _. ⌜ now (out .exit) ≡ bytesAt (byteBy (round (now (bytes .entry)) n) entries count) start (length (now (out .entry))) ⌝ }
 {
-    let mut i: usize = 0;
-    while i < count {
-        let write = entries[i];
+    let mut left = count;
+    while 0 < left {
+        let write = entries[count - left];
         put_overlap(bytes, n, write, start, out);
-        i += 1;
+        left -= 1;
     }
 }
 
