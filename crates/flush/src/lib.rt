@@ -108,16 +108,19 @@ fn not_begun(s: State, why: Reason) -> FlushOut
     }
 }
 
-// The state with those writes held and a flush under way under the next number.
-fn under_way(s: State, held: [Held; Ring::ENTRIES], count: usize) -> State
+// Those writes held, and a flush under way under the next number, with a sheet of that length.
+fn begun(s: State, held: [Held; Ring::ENTRIES], count: usize, length: usize) -> FlushOut
     requires { ⌜ (count ≤ mostEntries) × (s .next < numberLimit) ⌝ }
-    ensures { λ o. ⌜ o ≡ withNext (withFlush (withHeld s (take count held)) (s .next)) (s .next + 1) ⌝ }
+    ensures { λ o. ⌜ (o .state ≡ withNext (withFlush (withHeld s (take count held)) (s .next)) (s .next + 1)) × (o .answer ≡ Flush.Begun (record { number = s .next; length = length })) ⌝ }
 {
     let number = s.next;
     let mut t = state::relist(s, held, 0, count);
     t.flush = number;
     t.next = number + 1;
-    t
+    FlushOut {
+        state: t,
+        answer: Flush::Begun(Started { number, length }),
+    }
 }
 
 // Starts a flush, on a ring and a state that passed the judge.
@@ -147,8 +150,7 @@ fn start_known(
             answer: Flush::Nothing,
         };
     }
-    let number = s.next;
-    if number == Ring::NUMBERS {
+    if s.next == Ring::NUMBERS {
         return not_begun(s, Reason::NoNumber);
     }
     let entries = batch.entries;
@@ -157,11 +159,7 @@ fn start_known(
         return not_begun(s, Reason::BadBuffer);
     };
     let taken = batch.held;
-    let state = under_way(s, taken, count);
-    FlushOut {
-        state,
-        answer: Flush::Begun(Started { number, length }),
-    }
+    begun(s, taken, count, length)
 }
 
 // Starts a flush of a node: writes the sheet of its oldest Unflushed writes to the buffer's front, for the host to send.

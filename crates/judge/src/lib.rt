@@ -72,7 +72,7 @@ fn none_held() -> [Held; Ring::ENTRIES]
     [Held { entry, phase: 0 }; Ring::ENTRIES]
 }
 
-// Whether one listed write more has the ring's number, below the next, and is Unflushed, In flight or Flushed.
+// Whether all listed writes before matched the ring's entries, and one more does.
 fn matches_on(matched: bool, listed: Listed, number: u64, next: u64) -> bool
     ensures { λ r. ⌜ r ≡ both matched (listedFits next number listed) ⌝ }
 {
@@ -82,7 +82,7 @@ fn matches_on(matched: bool, listed: Listed, number: u64, next: u64) -> bool
     one_fits(listed, number, next)
 }
 
-// Whether one write more or any before it is In flight.
+// Whether any write before was In flight, or one more is.
 fn flies_on(flying: bool, phase: u8) -> bool
     ensures { λ r. ⌜ r ≡ pick flying true (eqb phase inFlight) ⌝ }
 {

@@ -38,13 +38,13 @@ not-begun-requires-3 c κs = search needs
 
 returns-4 : tie.Need-returns-4
 returns-4 c =
-    let a = c .before .before .before .before .before .before .before .before .before .args in
-    rw (c .not-begun3 .ensures .0, c .not-begun3 .ensures .1) (start-number (now (a .bytes)) (a .s) _ _ _ (c .before .before .before .before .before .before .before .before .before .pre) (a .node) (now (a .buffer)) (c .before .before .before .before .before .before .if1 .left) (c .before .before .before .before .if2 .left) _ (c .before .before .before .take-batch .ensures) (c .before .before .if3 .left) (c .before .if4 .taken))
+    let a = c .before .before .before .before .before .before .before .before .before .before .args in
+    rw (c .not-begun3 .ensures .0, c .not-begun3 .ensures .1) (start-number (now (a .bytes)) (a .s) _ _ _ (c .before .before .before .before .before .before .before .before .before .before .pre) (a .node) (now (a .buffer)) (c .before .before .before .before .before .before .before .if1 .left) (c .before .before .before .before .before .if2 .left) _ (c .before .before .before .before .take-batch .ensures) (c .before .before .before .if3 .left) (c .before .if4 .taken))
 
 make-sheet-requires : tie.Need-make-sheet-requires
 make-sheet-requires c κs =
-    let a = c .before .before .before .before .before .before .before .before .before .before .args in
-    (sure (now (a .bytes)) (a .s) _ _ _ (c .before .before .before .before .before .before .before .before .before .before .pre) .sized, batch-laid (now (a .bytes)) (a .s) _ _ _ (c .before .before .before .before .before .before .before .before .before .before .pre) (a .node) _ (c .before .before .before .before .take-batch .ensures))
+    let a = c .before .before .before .before .before .before .before .before .before .before .before .args in
+    (sure (now (a .bytes)) (a .s) _ _ _ (c .before .before .before .before .before .before .before .before .before .before .before .pre) .sized, batch-laid (now (a .bytes)) (a .s) _ _ _ (c .before .before .before .before .before .before .before .before .before .before .before .pre) (a .node) _ (c .before .before .before .before .before .take-batch .ensures))
 
 enum-known-made : tie.Need-enum-known-made
 enum-known-made c = search needs
@@ -60,13 +60,13 @@ same-length c = search needs
 
 returns-5 : tie.Need-returns-5
 returns-5 c =
-    let a = c .before .before .before .before .before .before .before .before .before .before .before .before .before .before .before .before .args in
-    rw (c .not-begun4 .ensures .0, c .not-begun4 .ensures .1) (start-short (now (a .bytes)) (a .s) _ _ _ (c .before .before .before .before .before .before .before .before .before .before .before .before .before .before .before .before .pre) (a .node) (now (a .buffer)) (c .before .before .before .before .before .before .before .before .before .before .before .before .before .if1 .left) (c .before .before .before .before .before .before .before .before .before .before .before .if2 .left) _ (c .before .before .before .before .before .before .before .before .before .before .take-batch .ensures) (c .before .before .before .before .before .before .before .before .before .if3 .left) (c .before .before .before .before .before .before .before .before .if4 .left) _ _ (c .before .before .before .before .before .make-sheet .ensures .0) (c .before .before .before .before .before .make-sheet .ensures .1) (c .before .enum-told .given .1))
-
-under-way-requires : tie.Need-under-way-requires
-under-way-requires c κs =
     let a = c .before .before .before .before .before .before .before .before .before .before .before .before .before .before .before .before .before .args in
-    let k = sure (now (a .bytes)) (a .s) _ _ _ (c .before .before .before .before .before .before .before .before .before .before .before .before .before .before .before .before .before .pre) in
+    rw (c .not-begun4 .ensures .0, c .not-begun4 .ensures .1) (start-short (now (a .bytes)) (a .s) _ _ _ (c .before .before .before .before .before .before .before .before .before .before .before .before .before .before .before .before .before .pre) (a .node) (now (a .buffer)) (c .before .before .before .before .before .before .before .before .before .before .before .before .before .before .if1 .left) (c .before .before .before .before .before .before .before .before .before .before .before .before .if2 .left) _ (c .before .before .before .before .before .before .before .before .before .before .before .take-batch .ensures) (c .before .before .before .before .before .before .before .before .before .before .if3 .left) (c .before .before .before .before .before .before .before .before .if4 .left) _ _ (c .before .before .before .before .before .make-sheet .ensures .0) (c .before .before .before .before .before .make-sheet .ensures .1) (c .before .enum-told .given .1))
+
+begun-requires : tie.Need-begun-requires
+begun-requires c κs =
+    let a = c .before .before .before .before .before .before .before .before .before .before .before .before .before .before .before .before .before .before .args in
+    let k = sure (now (a .bytes)) (a .s) _ _ _ (c .before .before .before .before .before .before .before .before .before .before .before .before .before .before .before .before .before .before .pre) in
     let n = k .next in
     let l = c .before .before .before .before .before .before .before .before .before .if4 .left in
     (k .few, omega (arith, l))
@@ -76,8 +76,9 @@ same-length-2 c = search needs
 
 returns-6 : tie.Need-returns-6
 returns-6 c =
-    let a = c .before .before .before .before .before .before .before .before .before .before .before .before .before .before .before .before .before .before .args in
-    start-done (now (a .bytes)) (a .s) _ _ _ (c .before .before .before .before .before .before .before .before .before .before .before .before .before .before .before .before .before .before .pre) (a .node) (now (a .buffer)) (c .before .before .before .before .before .before .before .before .before .before .before .before .before .before .before .if1 .left) (c .before .before .before .before .before .before .before .before .before .before .before .before .before .if2 .left) _ (c .before .before .before .before .before .before .before .before .before .before .before .before .take-batch .ensures) (c .before .before .before .before .before .before .before .before .before .before .before .if3 .left) (c .before .before .before .before .before .before .before .before .before .before .if4 .left) _ _ (c .before .before .before .before .before .before .before .make-sheet .ensures .0) (c .before .before .before .before .before .before .before .make-sheet .ensures .1) _ _ (c .before .before .before .made .given .1) (c .under-way .ensures)
+    let a = c .before .before .before .before .before .before .before .before .before .before .before .before .before .before .before .before .before .before .before .args in
+    rw (c .begun .ensures .1)
+    (start-done (now (a .bytes)) (a .s) _ _ _ (c .before .before .before .before .before .before .before .before .before .before .before .before .before .before .before .before .before .before .before .pre) (a .node) (now (a .buffer)) (c .before .before .before .before .before .before .before .before .before .before .before .before .before .before .before .before .if1 .left) (c .before .before .before .before .before .before .before .before .before .before .before .before .before .before .if2 .left) _ (c .before .before .before .before .before .before .before .before .before .before .before .before .before .take-batch .ensures) (c .before .before .before .before .before .before .before .before .before .before .before .before .if3 .left) (c .before .before .before .before .before .before .before .before .before .before .if4 .left) _ _ (c .before .before .before .before .before .before .before .make-sheet .ensures .0) (c .before .before .before .before .before .before .before .make-sheet .ensures .1) _ _ (c .before .before .before .made .given .1) (c .begun .ensures .0))
 
 pub start-known-spec : {M : Type 1} → statement M
 start-known-spec =
@@ -97,6 +98,6 @@ start-known-spec =
     not-begun-requires-4
     same-length
     returns-5
-    under-way-requires
+    begun-requires
     same-length-2
     returns-6)
