@@ -7,8 +7,8 @@ use crate::history::History;
 use crate::player::{Answer, Player};
 use crate::ring::{self, NUMBER_LIMIT};
 use crate::rules::{
-    Checked, Fault, HELD, SHORE, STATE, begin_flush, check_fill, check_question, cut_off, held_exactly, hold,
-    number_is_next, shore_and_ring, state_tells, untouched, value_is,
+    Checked, Fault, HELD, SHORE, STATE, begin_flush, check_fill, check_question, held_exactly, hold, number_is_next,
+    shore_and_ring, state_tells, untouched, value_is,
 };
 use crate::script::Command;
 use crate::shore::Files;
@@ -21,9 +21,6 @@ pub enum Standing {
     Followed,
     /// Ring or state were damaged, and no call has gone through since.
     Damaged,
-    /// The box is off: a call was cut, and nothing has changed since. The history has what counts of that call, and the
-    /// ring must too; the state is lost.
-    Cut,
 }
 
 /// One command as it was played.
@@ -59,7 +56,7 @@ impl Default for Checker {
 impl Checker {
     pub fn observe(&mut self, step: &Step) -> Checked {
         untouched(step)?;
-        count::refusal(step, &mut self.coverage);
+        count::refusal(step.answer, &mut self.coverage);
         match step.command {
             Command::Look(_) => Ok(()),
             Command::Make { .. } => {
@@ -73,20 +70,14 @@ impl Checker {
             _ => match self.standing {
                 Standing::Unknown => Ok(()),
                 Standing::Damaged => self.after_damage(step),
-                Standing::Cut => self.behind_cut(step),
                 Standing::Followed => self.follow(step),
             },
         }
     }
 
-    /// Whether the history says what the ring holds.
-    pub fn knows_the_ring(&self) -> bool {
-        matches!(self.standing, Standing::Followed | Standing::Cut)
-    }
-
-    /// Demand 3 at this moment, which the shore may have changed. Right behind a cut it must hold as well.
+    /// Demand 3 at this moment, which the shore may have changed.
     pub fn check_now(&self, player: &Player) -> Checked {
-        if !self.knows_the_ring() {
+        if self.standing != Standing::Followed {
             return Ok(());
         }
         let reading = ring::read(&player.ring);
@@ -98,7 +89,7 @@ impl Checker {
         if wanted(HELD) {
             held_exactly(&self.history, &reading.entries)?;
         }
-        if wanted(STATE) && self.standing == Standing::Followed {
+        if wanted(STATE) {
             state_tells(&self.history, &player.state)?;
         }
         Ok(())
@@ -147,28 +138,12 @@ impl Checker {
             self.coverage.saw("damage left by a restart");
             return self.follow(step);
         }
-        self.lost_if_changed(step, "call went through on damage");
-        Ok(())
-    }
-
-    /// A restart goes on with what counts of the call that was cut. Any other call finds the state from before that call,
-    /// which may fit or not.
-    fn behind_cut(&mut self, step: &Step) -> Checked {
-        if matches!(step.command, Command::Reopen) {
-            self.standing = Standing::Followed;
-            self.coverage.saw("restart behind a cut");
-            return self.follow(step);
-        }
-        self.lost_if_changed(step, "call went through behind a cut");
-        Ok(())
-    }
-
-    fn lost_if_changed(&mut self, step: &Step, what: &'static str) {
         let changed = step.before.ring != step.after.ring || step.before.state != step.after.state;
         if changed {
-            self.coverage.saw(what);
+            self.coverage.saw("call went through on damage");
             self.standing = Standing::Unknown;
         }
+        Ok(())
     }
 
     fn follow(&mut self, step: &Step) -> Checked {
@@ -181,25 +156,9 @@ impl Checker {
         hold(given == expected, "refusals", || format!("{given:?} where {expected:?} is due"))?;
         if given == Expected::Value {
             count::step(&self.history, step, &mut self.coverage);
-            match step.command {
-                Command::Cut { steps, call, .. } => self.cut(*steps, call, step.answer)?,
-                _ => self.apply(step)?,
-            }
+            self.apply(step)?;
         }
         self.check_now(step.after)
-    }
-
-    /// Takes what counts of a call that was cut into the history.
-    fn cut(&mut self, steps: u64, call: &Command, answer: &Answer) -> Checked {
-        let held = self.history.held.len();
-        cut_off(&mut self.history, steps, call, answer)?;
-        self.standing = Standing::Cut;
-        let left = held.saturating_sub(self.history.held.len());
-        self.coverage.saw_times("Flushed, let go", left);
-        if left > 1 {
-            self.coverage.saw("several writes left by one head byte, then cut");
-        }
-        Ok(())
     }
 
     /// Takes a call that went through into the history, and checks its answer.

@@ -7,14 +7,9 @@ use crate::player::Answer;
 use crate::ring::slots_of;
 use crate::script::Command;
 
-pub fn refusal(step: &Step, coverage: &mut Coverage) {
-    match step.answer {
-        Answer::Refused(refusal) => {
-            coverage.saw_refusal(*refusal);
-            if matches!(step.command, Command::Cut { .. }) {
-                coverage.saw("cut call refused");
-            }
-        }
+pub fn refusal(answer: &Answer, coverage: &mut Coverage) {
+    match answer {
+        Answer::Refused(refusal) => coverage.saw_refusal(*refusal),
         Answer::Nothing => coverage.saw("nothing to flush"),
         _ => {}
     }
@@ -38,34 +33,7 @@ pub fn step(history: &History, step: &Step, coverage: &mut Coverage) {
             let done = *step.answer == Answer::Value(1);
             coverage.saw(if done { "ticket asked, done" } else { "ticket asked, not done" });
         }
-        Command::Cut { steps, ref call, .. } => cut(history, step, steps, call, coverage),
         _ => {}
-    }
-}
-
-fn cut(history: &History, step: &Step, steps: u64, call: &Command, coverage: &mut Coverage) {
-    if let Command::Write { bytes, .. } = call {
-        return cut_write(history, step, steps, bytes.len(), coverage);
-    }
-    coverage.saw(match (call, steps) {
-        _ if *step.answer == Answer::Value(0) => "cut call with no step",
-        (Command::Unpin { .. }, 0) => "head byte of an unpin cut off",
-        (Command::Unpin { .. }, _) => "head byte of an unpin stored, then cut",
-        (_, 0) => "head byte of a report cut off",
-        _ => "head byte of a report stored, then cut",
-    });
-}
-
-fn cut_write(history: &History, step: &Step, steps: u64, length: usize, coverage: &mut Coverage) {
-    let slots = slots_of(length) as u64;
-    if steps > slots {
-        return coverage.saw("write cut behind its tail byte");
-    }
-    coverage.saw("write cut before its tail byte");
-    if steps == slots {
-        coverage.saw("write cut between its last slot and its tail byte");
-    } else if u64::from(step.before.ring[3]) + steps >= history.slots as u64 {
-        coverage.saw("write cut in a slot round the ring's end");
     }
 }
 

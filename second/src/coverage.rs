@@ -6,7 +6,7 @@ use std::fmt;
 
 /// Everything that a long run must meet at least once.
 #[rustfmt::skip]
-pub const ALL: [&str; 52] = [
+pub const ALL: [&str; 39] = [
     "refused 1", "refused 2", "refused 3", "refused 4", "refused 5", "refused 6",
     "refused 7", "refused 8", "refused 9", "refused 10", "refused 11", "refused 12",
     "nothing to flush",
@@ -36,19 +36,6 @@ pub const ALL: [&str; 52] = [
     "call went through on damage",
     "damage undone",
     "damage left by a restart",
-    "write cut before its tail byte",
-    "write cut in a slot round the ring's end",
-    "write cut between its last slot and its tail byte",
-    "write cut behind its tail byte",
-    "head byte of an unpin cut off",
-    "head byte of an unpin stored, then cut",
-    "head byte of a report cut off",
-    "head byte of a report stored, then cut",
-    "several writes left by one head byte, then cut",
-    "cut call with no step",
-    "cut call refused",
-    "restart behind a cut",
-    "call went through behind a cut",
 ];
 
 #[derive(Default, Debug, Clone)]

@@ -18,10 +18,6 @@ pub fn expected(history: &History, command: &Command) -> Expected {
     if let Command::Flush { node, length } = *command {
         return of_flush(history, node, length);
     }
-    // A call that would be refused is, before the cut can come.
-    if let Command::Cut { call, .. } = command {
-        return expected(history, call);
-    }
     let reasons = match command {
         Command::Write { node, offset, bytes, .. } => of_write(history, *node, *offset, bytes.len()),
         Command::Pin { .. } => {

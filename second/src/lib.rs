@@ -1,15 +1,14 @@
 //! The second program: document 01 once more, in ordinary Rust.
 //!
-//! `model` holds the twelve calls, `cut` what is left of one that is cut off, `script` and `player` the bench script
-//! over them. `history` and `shore` follow what the calls mean from outside, and `check` asks the `rules` of each step.
-//! `generate` writes random histories; `compare` plays them against another program.
+//! `model` holds the twelve calls, `script` and `player` the bench script over them. `history` and `shore` follow what
+//! the calls mean from outside, and `check` asks the `rules` of each step. `generate` writes random histories; `compare` plays
+//! them against another program.
 
 pub mod check;
 pub mod compare;
 pub mod count;
 pub mod coverage;
 pub mod crc;
-pub mod cut;
 pub mod expect;
 pub mod fit;
 pub mod generate;

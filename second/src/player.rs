@@ -1,7 +1,6 @@
 //! Plays a script: commands on a ring, a state and a buffer.
 
 use crate::crc::crc32;
-use crate::cut::cut_off;
 use crate::model::{self, Flush};
 use crate::picture::picture;
 use crate::refusal::Refusal;
@@ -76,17 +75,9 @@ impl Player {
                 *self.ring.get_mut(usize::try_from(*place).ok()?)? = *byte;
                 Some(Answer::Done)
             }
-            Command::Cut { steps, byte, call } => Some(self.cut(*steps, *byte, call).unwrap_or_else(Answer::Refused)),
             _ if self.set(command) => Some(Answer::Done),
             _ => Some(self.call(command).unwrap_or_else(Answer::Refused)),
         }
-    }
-
-    /// The call is played to its end on a copy. Of that, only what was stored in the ring before the cut is taken over.
-    fn cut(&mut self, steps: u64, junk: u8, call: &Command) -> model::Answer<Answer> {
-        let mut whole = self.clone();
-        whole.call(call)?;
-        Ok(Answer::Value(cut_off(&mut self.ring, &whole.ring, steps, junk)))
     }
 
     fn call(&mut self, command: &Command) -> model::Answer<Answer> {
@@ -116,7 +107,7 @@ impl Player {
             Command::Ticket => Answer::Value(model::ticket(ring, state)?),
             Command::Ask { number, node } => Answer::Value(model::ask(ring, state, number, node)?.into()),
             Command::Turn => Answer::Value(model::turn(ring, state)?.into()),
-            _ => unreachable!("looks, damage and cuts are no calls"),
+            _ => unreachable!("looks and damage are no calls"),
         })
     }
 

@@ -4,7 +4,7 @@ use crate::check::Step;
 use crate::coverage::Coverage;
 use crate::history::{Fetch, History, Write, painted, sheet_of};
 use crate::player::Answer;
-use crate::ring::{Entry, slots_of};
+use crate::ring::Entry;
 use crate::script::Command;
 use crate::state::{Phase, State};
 use std::collections::{BTreeMap, BTreeSet};
@@ -26,12 +26,11 @@ pub fn hold(holds: bool, rule: &'static str, detail: impl FnOnce() -> String) ->
     if holds { Ok(()) } else { Err(Fault { rule, detail: detail() }) }
 }
 
-/// A refusal changes no state and no byte; a call that is lent no buffer changes none of it; a cut changes no state.
+/// A refusal changes no state and no byte; a call that is lent no buffer changes none of it.
 pub fn untouched(step: &Step) -> Checked {
     let Step { before, command, answer, after } = step;
     let refused = matches!(answer, Answer::Refused(_) | Answer::Nothing);
     let is_make = matches!(command, Command::Make { .. });
-    let is_cut = matches!(command, Command::Cut { .. });
     let lent = match command {
         Command::Fill { length, bytes, .. } => {
             let mut lent = bytes.clone();
@@ -41,7 +40,7 @@ pub fn untouched(step: &Step) -> Checked {
         Command::Flush { length, .. } => Some(vec![0xAA; *length]),
         _ => None,
     };
-    let state_same = !(refused || is_cut) || before.state == after.state;
+    let state_same = !refused || before.state == after.state;
     let ring_same = !refused || is_make || before.ring == after.ring;
     let buffer_same = match lent {
         Some(lent) => !refused || after.buffer == lent,
@@ -117,32 +116,6 @@ pub fn begin_flush(history: &mut History, node: u32, step: &Step) -> Checked {
     let batch = batch.iter().map(|write| write.number).collect();
     history.send(node, batch, bytes);
     Ok(())
-}
-
-/// A call that was cut off. It counts as made exactly if its last step was done, which is a write's tail byte, and the
-/// head byte of an unpin or report. Where no entry leaves there is no such step, and it doesn't count.
-pub fn cut_off(history: &mut History, steps: u64, call: &Command, answer: &Answer) -> Checked {
-    let mut made = history.clone();
-    let due = make_by_steps(&mut made, call);
-    value_is(answer, due, "steps")?;
-    if due > 0 && steps >= due {
-        *history = made;
-    }
-    Ok(())
-}
-
-/// Takes a call that wasn't cut into the history, and counts the steps by which it stores in the ring.
-fn make_by_steps(history: &mut History, call: &Command) -> u64 {
-    match call {
-        Command::Write { node, handle, offset, bytes } => {
-            history.accept(*node, *handle, *offset, bytes);
-            slots_of(bytes.len()) as u64 + 1
-        }
-        Command::Unpin { number } => u64::from(history.unpin(*number) > 0),
-        Command::Report { good: true, .. } => u64::from(history.good() > 0),
-        // After a bad report nothing leaves.
-        _ => 0,
-    }
 }
 
 /// Where the host kept the premises, the fill claim; and for every fill the rule, by the held writes.

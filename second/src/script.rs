@@ -18,7 +18,6 @@ pub enum Command {
     Ticket,
     Ask { number: u64, node: u32 },
     Turn,
-    Cut { steps: u64, byte: u8, call: Box<Command> },
     Look(Look),
     Poke { place: u64, byte: u8 },
     SetNext(u64),
@@ -68,7 +67,6 @@ fn command(words: &[&[u8]]) -> Option<Command> {
     let (&name, rest) = words.split_first()?;
     match (name, rest) {
         (b"set", _) => set(rest),
-        (b"cut", &[steps, junk, ref call @ ..]) => cut(number(steps)?, byte(junk)?, call),
         (b"poke", &[place, value]) => Some(Command::Poke { place: number(place)?, byte: byte(value)? }),
         (b"ring" | b"buffer" | b"sum" | b"state" | b"show", _) => look(words).map(Command::Look),
         _ => call(name, rest),
@@ -104,14 +102,6 @@ fn fill(rest: &[&[u8]]) -> Option<Command> {
     let (length, bytes) = (length(len)?, bytes(content)?);
     let (pin, node, offset, fetched) = (number(pin)?, small(node)?, small(offset)?, number(fetched)?);
     (bytes.len() <= length).then_some(Command::Fill { pin, node, offset, length, fetched, bytes })
-}
-
-/// A call that is cut off behind so many steps. Only one that stores in the ring can be.
-fn cut(steps: u64, byte: u8, words: &[&[u8]]) -> Option<Command> {
-    let (&name, rest) = words.split_first()?;
-    let stores = matches!(name, b"write" | b"unpin" | b"report");
-    let call = if stores { call(name, rest) } else { None };
-    Some(Command::Cut { steps, byte, call: Box::new(call?) })
 }
 
 fn look(words: &[&[u8]]) -> Option<Look> {

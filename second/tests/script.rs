@@ -49,14 +49,6 @@ const NO_COMMANDS: &[&str] = &[
     "pin 4294967296", "report 1 Good", "report 1", "report good 1", "sum", "sum state", "ring 1 0", "ring 0 1",
     "buffer 0 1", "poke 0 00", "set phase 0 256", "set phase 254 0", "set number 254 0", "set pin 16 0 0 0",
     "set pin 0 0 0 4294967296", "set nothing 0", "set next", "set next 18446744073709551616", "turn 1", "é",
-    "cut", "cut 1", "cut 1 00", "cut 1 unpin 1", "cut 00 unpin 1", "cut x 00 unpin 1", "cut -1 00 unpin 1",
-    "cut 18446744073709551616 00 unpin 1", "cut 1 0 unpin 1", "cut 1 000 unpin 1", "cut 1 0g unpin 1",
-    "cut 1 00x1 unpin 1", "cut 1 - unpin 1", "cut 1 00 ", "cut 1 00  unpin 1", "cut  1 00 unpin 1", "cut 1 00 unpin 1 ",
-    "Cut 1 00 unpin 1", "cut 1 00 Unpin 1", "cut 1 00 unpin", "cut 1 00 report 1", "cut 1 00 report 1 Good",
-    "cut 1 00 write 1 1 1", "cut 1 00 write 1 1 1 1", "cut 1 00 write 1 1 1 11x140001", "cut 1 00 make 4624",
-    "cut 1 00 reopen", "cut 1 00 pin 1", "cut 1 00 fill 1 1 0 1 0 -", "cut 1 00 end 1", "cut 1 00 flush 1 100",
-    "cut 1 00 ticket", "cut 1 00 ask 1 1", "cut 1 00 turn", "cut 1 00 state", "cut 1 00 show", "cut 1 00 set next 1",
-    "cut 1 00 poke 0 00", "cut 1 00 cut 1 00 unpin 1", "cut 1 00 # unpin 1",
 ];
 
 #[test]
@@ -80,21 +72,6 @@ fn words() {
     says(&longest, "ok\nrefused 2\n");
     longest.extend(b"11");
     says(&longest, "ok\n? 2\n");
-}
-
-#[test]
-fn words_of_a_cut() {
-    says(b"cut 1 00 unpin 1\n", "refused 8\n");
-    says(b"make 4624\ncut 000 fF write 1 0 0 11\nring 16 18\n", "ok\nok 2\nok FFFF\n");
-    says(b"make 4624\ncut 18446744073709551615 00 write 01 0 00 aB\nring 39 41\nreopen\n", "ok\nok 2\nok 00AB\nok 2\n");
-    says(b"make 4624\npin 7\ncut 1 00 unpin 001\nstate\n", "ok\nok 1\nok 0\nok 2 0 0 w p 0:1:1:7\n");
-    // As long as a line can be, and one byte more.
-    let mut longest = b"make 4624\ncut 1 00 write 1 0 0 ".to_vec();
-    longest.extend(b"1".repeat(280_000));
-    says(&longest, "ok\nrefused 2\n");
-    let zeros = |count: usize| [b"cut ", &b"0".repeat(count)[..], b" 00 unpin 1\nturn\n"].concat();
-    says(&zeros(300_000 - 15), "refused 8\nrefused 8\n");
-    says(&zeros(300_000 - 14), "? 1 too long\nrefused 8\n");
 }
 
 #[test]

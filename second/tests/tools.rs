@@ -53,14 +53,6 @@ fn shrinking_keeps_what_is_needed() {
     assert_eq!(short, b"17\n140\n");
 }
 
-#[test]
-fn shrinking_keeps_a_cut() {
-    let script = b"turn\nmake 65296\nticket\nwrite 7 1 0 42\ncut 9 ff write 7 1 0 41x4096\nreopen\nturn\n";
-    let has = |output: Vec<u8>, answer: &[u8]| lines(&output).any(|line| line == answer);
-    let short = shrink(script, |script| has(play(script), b"ok 18"));
-    assert_eq!(short, b"make 65296\ncut 9 ff write 7 1 0 41x4096\n");
-}
-
 /// A program that answers `ok` to nothing at all differs at the first line.
 #[test]
 fn comparing_finds_a_difference() {

@@ -115,7 +115,7 @@ fn write_from(
         return answer::reply(s, Answer::Not);
     }
     bytes::lay(word, &mut src[0..count]);
-    numbered(keep::write(ring, s, node, handle, offset, &src[0..count]))
+    numbered(calls::write(ring, s, node, handle, offset, &src[0..count]))
 }
 
 fn write(
@@ -173,7 +173,7 @@ pub fn make_call(
             count,
         } => write(ring, s, node, handle, offset, count, word::nth(line, 4)),
         Call::Pin { node } => numbered(calls::pin(ring, s, node)),
-        Call::Unpin { number } => acknowledged(keep::unpin(ring, s, number)),
+        Call::Unpin { number } => acknowledged(calls::unpin(ring, s, number)),
         Call::Fill {
             pin,
             node,
@@ -197,7 +197,7 @@ pub fn make_call(
         ),
         Call::End { node } => answer::reply(s, ended(calls::cached_end(ring, s, node))),
         Call::Flush { node, .. } => start_flush(ring, s, node, buffer),
-        Call::Report { number, good } => acknowledged(keep::report(ring, s, number, good)),
+        Call::Report { number, good } => acknowledged(calls::report(ring, s, number, good)),
         Call::Ticket => numbered(calls::take_ticket(ring, s)),
         Call::Ask { number, node } => {
             answer::reply(s, asked(calls::ask_ticket(ring, s, number, node)))

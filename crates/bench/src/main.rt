@@ -1,7 +1,6 @@
 // The bench: reads a script of calls, makes them, and prints what they answer (docs/SCRIPT.md). The program is thin: lines are told by
 // `script` and `command`, and every call is the library's.
 mod call;
-mod cut;
 mod damage;
 mod reading;
 mod run;

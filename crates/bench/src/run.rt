@@ -1,5 +1,5 @@
 // Running one line of a script on the ring, the state and the buffer.
-use crate::{call, cut, damage};
+use crate::{call, damage};
 use command::{Call, Command, Look};
 use looks::answer::{Answer, Answered};
 use looks::{answer, look};
@@ -60,26 +60,6 @@ fn run_call(
     next.ring = n;
     next.buffer = m;
     after(next, number, said, out)
-}
-
-// A call that is cut off, on the ring, whose length is that of an earlier call. State and buffer stay as they were.
-fn run_cut(
-    call: Call,
-    line: &[u8],
-    number: u64,
-    store: &mut [u8],
-    out: &mut [u8],
-    steps: usize,
-    byte: u8,
-    bench: Bench,
-) -> Bench {
-    let n = bench.ring;
-    if store.len() < n {
-        return refuse(bench, number, out);
-    }
-    let state = bench.state;
-    let answer = cut::cut_call(call, line, &mut store[0..n], state, steps, byte);
-    after(bench, number, answer::reply(state, answer), out)
 }
 
 // A look. The lengths are those of earlier calls, so neither test holds.
@@ -148,9 +128,6 @@ pub fn run(
     let state = bench.state;
     match command {
         Command::Call(call) => run_call(call, line, number, store, lent, out, bench),
-        Command::Cut { steps, byte, call } => {
-            run_cut(call, line, number, store, out, steps, byte, bench)
-        }
         Command::Look(look) => run_look(look, number, store, lent, out, bench),
         Command::Poke { place, byte } => run_poke(place, byte, number, store, out, bench),
         Command::Set(setting) => after(bench, number, damage::set(setting, state), out),

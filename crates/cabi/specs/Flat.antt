@@ -1,13 +1,8 @@
 -- An outcome as a host in C gets it: the refusal's number or 0, a value and a length, each 0 where there is none.
 use Rattle.std.specs.Prelude.{ℕ, List, [], ◌∷◌}
-use Rattle.plan.specs.declared.Stepped.{Stepped}
-use Rattle.plan.specs.declared.Stepped.TheVariants.{Stored, Refused}
-use Rattle.plan.specs.Plan.{step_count}
-use Rattle.rules.specs.Outcome.{Said, Outcome, says, refuses}
-use Rattle.rules.specs.Plans as plans
+use Rattle.rules.specs.Outcome.{Said, Outcome}
 use Rattle.cabi.specs.declared.Answer.{Answer}
 use Rattle.cabi.specs.declared.Changed.{Changed}
-use Rattle.cabi.specs.declared.Planned.{Planned}
 
 abbrev pub first_of : List ℕ → ℕ
 first_of [] = 0
@@ -23,12 +18,3 @@ flat said = record { refusal = said.refusal; value = first_of said.values; lengt
 -- with the state that the call gives back
 abbrev pub changed_by : Outcome → Changed
 changed_by o = record { state = o.state; answer = flat o.said }
-
--- with the plan, and how many steps it has
-abbrev pub planned_by : plans.Planned → Planned
-planned_by o = record { state = o.state; answer = flat o.said; steps = step_count o.plan; plan = o.plan }
-
--- a step: where it stored, and how many bytes
-abbrev pub said_step : Stepped → Said
-said_step (Stored s) = says (s.place ∷ s.length ∷ [])
-said_step (Refused why) = refuses why

@@ -4,19 +4,16 @@
 ghost use Rattle.std.specs.Prelude.{◌≡◌};
 ghost use Rattle.rules.specs.Call.{make_ring, reopen_ring, write, pin, unpin, ask_end, report, take_ticket, ask_ticket, ask_turn, start_flush, fill_read};
 ghost use Rattle.rules.specs.Outcome.{outcome, refuses};
-ghost use Rattle.rules.specs.Plans.{planned};
-ghost use Rattle.plan.specs.Plan.{step_count, step_ring, step_answer};
 ghost use Rattle.change.specs.Answers.{said_number, said_done};
 ghost use Rattle.calls.specs.Answers.{said_end, said_ticket, said_turn};
 ghost use Rattle.flush.specs.Answers.{said_start};
 ghost use Rattle.fill.specs.Answers.{said_fill};
-ghost use Rattle.cabi.specs.Flat.{flat, changed_by, planned_by, said_step};
+ghost use Rattle.cabi.specs.Flat.{flat, changed_by};
 
 use calls::{Asked, Ended, Turn};
-use change::{Ack, AckOut, AckPlan, Numbered, NumberedOut, NumberedPlan};
+use change::{Ack, AckOut, Numbered, NumberedOut};
 use fill::Filled;
 use flush::{Flush, FlushOut};
-use plan::{Plan, Stepped};
 use reason::Reason;
 use state::State;
 
@@ -34,16 +31,6 @@ pub struct Answer {
 pub struct Changed {
     pub state: State,
     pub answer: Answer,
-}
-
-// A call that is planned: the state and the answer once its stores are made, how many these are, and the plan that makes them.
-#[repr(C)]
-#[derive(Drop)]
-pub struct Planned {
-    pub state: State,
-    pub answer: Answer,
-    pub steps: usize,
-    pub plan: Plan,
 }
 
 fn value(value: u64) -> Answer
@@ -136,19 +123,6 @@ fn filled(answer: Filled) -> Answer
     }
 }
 
-fn stepped(answer: Stepped) -> Answer
-    ensures { result ≡ flat (said_step answer) }
-{
-    match answer {
-        Stepped::Stored(span) => Answer {
-            refusal: 0,
-            value: span.place as u64,
-            length: span.length as u64,
-        },
-        Stepped::Refused(why) => refused(why),
-    }
-}
-
 // A number, with the state beside it.
 fn with_number(out: NumberedOut) -> Changed
     ensures { result ≡ record { state = out.state; answer = flat (said_number out.answer) } }
@@ -167,39 +141,6 @@ fn with_done(out: AckOut) -> Changed
     let said = out.answer;
     let answer = done(said);
     Changed { state, answer }
-}
-
-// With a plan beside it.
-fn with_number_plan(out: NumberedPlan) -> Planned
-    ensures { result ≡ record { state = out.state; answer = flat (said_number out.answer); steps = step_count out.plan; plan = out.plan } }
-{
-    let state = out.state;
-    let said = out.answer;
-    let plan = out.plan;
-    let steps = plan::count(plan);
-    let answer = numbered(said);
-    Planned {
-        state,
-        answer,
-        steps,
-        plan,
-    }
-}
-
-fn with_done_plan(out: AckPlan) -> Planned
-    ensures { result ≡ record { state = out.state; answer = flat (said_done out.answer); steps = step_count out.plan; plan = out.plan } }
-{
-    let state = out.state;
-    let said = out.answer;
-    let plan = out.plan;
-    let steps = plan::count(plan);
-    let answer = done(said);
-    Planned {
-        state,
-        answer,
-        steps,
-        plan,
-    }
 }
 
 // Makes an empty ring.
@@ -232,7 +173,7 @@ pub extern "C" fn vibetorch_write(
 ) -> Changed
     ensures { (result ≡ changed_by (outcome (write node handle offset bytes.now) ring.old state)) × (ring.new ≡ (outcome (write node handle offset bytes.now) ring.old state).ring) }
 {
-    let out = keep::write(ring, state, node, handle, offset, bytes);
+    let out = calls::write(ring, state, node, handle, offset, bytes);
     with_number(out)
 }
 
@@ -250,7 +191,7 @@ pub extern "C" fn vibetorch_pin(ring: &[u8], state: State, node: u32) -> Changed
 pub extern "C" fn vibetorch_unpin(ring: &mut [u8], state: State, number: u64) -> Changed
     ensures { (result ≡ changed_by (outcome (unpin number) ring.old state)) × (ring.new ≡ (outcome (unpin number) ring.old state).ring) }
 {
-    let out = keep::unpin(ring, state, number);
+    let out = calls::unpin(ring, state, number);
     with_done(out)
 }
 
@@ -310,7 +251,7 @@ pub extern "C" fn vibetorch_report(
 ) -> Changed
     ensures { (result ≡ changed_by (outcome (report number good) ring.old state)) × (ring.new ≡ (outcome (report number good) ring.old state).ring) }
 {
-    let out = keep::report(ring, state, number, good);
+    let out = calls::report(ring, state, number, good);
     with_done(out)
 }
 
@@ -339,54 +280,4 @@ pub extern "C" fn vibetorch_whose_turn(ring: &[u8], state: State) -> Answer
 {
     let answer = calls::whose_turn(ring, state);
     turned(answer)
-}
-
-// ---- a call in steps
-
-// Plans a write.
-#[unsafe(no_mangle)]
-pub extern "C" fn vibetorch_plan_write(
-    ring: &[u8],
-    state: State,
-    node: u32,
-    handle: u32,
-    offset: u32,
-    bytes: &[u8],
-) -> Planned
-    ensures { result ≡ planned_by (planned (write node handle offset bytes.now) ring.now state) }
-{
-    let out = keep::plan_write(ring, state, node, handle, offset, bytes);
-    with_number_plan(out)
-}
-
-// Plans an unpin.
-#[unsafe(no_mangle)]
-pub extern "C" fn vibetorch_plan_unpin(ring: &[u8], state: State, number: u64) -> Planned
-    ensures { result ≡ planned_by (planned (unpin number) ring.now state) }
-{
-    let out = keep::plan_unpin(ring, state, number);
-    with_done_plan(out)
-}
-
-// Plans a report.
-#[unsafe(no_mangle)]
-pub extern "C" fn vibetorch_plan_report(
-    ring: &[u8],
-    state: State,
-    number: u64,
-    good: bool,
-) -> Planned
-    ensures { result ≡ planned_by (planned (report number good) ring.now state) }
-{
-    let out = keep::plan_report(ring, state, number, good);
-    with_done_plan(out)
-}
-
-// Makes one step of a plan: one store. The value is its place in the ring, the length how many bytes it stores.
-#[unsafe(no_mangle)]
-pub extern "C" fn vibetorch_step(ring: &mut [u8], plan: Plan, bytes: &[u8], step: usize) -> Answer
-    ensures { (result ≡ flat (said_step (step_answer plan bytes.now step ring.old))) × (ring.new ≡ step_ring plan bytes.now step ring.old) }
-{
-    let answer = plan::make_step(ring, plan, bytes, step);
-    stepped(answer)
 }

@@ -1,8 +1,8 @@
-// The public calls that are lent no buffer and store no entry or head byte. Document 01, "What the box's cache does", "Moves" and "When the box says no".
+// The public calls but the two with a lent buffer. Document 01, "What the box's cache does", "Moves" and "When the box says no".
 // Each takes the ring's bytes and the state, whatever they are, and answers; its promise is one equation with `outcome`, which settles what is
 // said, the state and every byte. Each judges ring and state by one walk.
 ghost use Rattle.std.specs.Prelude.{◌≡◌};
-ghost use Rattle.rules.specs.Call.{make_ring, reopen_ring, pin, ask_end, take_ticket, ask_ticket, ask_turn};
+ghost use Rattle.rules.specs.Call.{make_ring, reopen_ring, write, pin, unpin, ask_end, report, take_ticket, ask_ticket, ask_turn};
 ghost use Rattle.rules.specs.Outcome.{outcome, outcome_by};
 ghost use Rattle.change.specs.Answers.{said_number, said_done};
 ghost use Rattle.calls.specs.Answers.{said_end, said_ticket, said_turn};
@@ -130,6 +130,40 @@ pub fn pin(bytes: &[u8], s: State, node: u32) -> NumberedOut
     }
 }
 
+// Ends a pin; what it alone kept leaves.
+pub fn unpin(bytes: &mut [u8], s: State, number: u64) -> AckOut
+    ensures { outcome_by (said_done result.answer) result.state bytes.new ≡ outcome (unpin number) bytes.old s }
+{
+    let judged = judge::judge(bytes, s);
+    let verdict = judged.verdict;
+    let held = judged.held;
+    match verdict {
+        Verdict::Refused(why) => change::not_done(s, why),
+        Verdict::Fits(ring) => change::unpin_known(bytes, s, ring, held, judged.count, number),
+    }
+}
+
+// Tells how the flush under way went: good, the whole sheet landed; bad, any of its bytes may have.
+pub fn report(bytes: &mut [u8], s: State, number: u64, good: bool) -> AckOut
+    ensures { outcome_by (said_done result.answer) result.state bytes.new ≡ outcome (report number good) bytes.old s }
+{
+    let judged = judge::judge(bytes, s);
+    let verdict = judged.verdict;
+    let held = judged.held;
+    match verdict {
+        Verdict::Refused(why) => change::not_done(s, why),
+        Verdict::Fits(ring) => change::report_known(
+            bytes,
+            s,
+            ring,
+            held,
+            judged.count,
+            number,
+            good,
+        ),
+    }
+}
+
 // The state of a ring as it is reopened: every entry Unflushed.
 pub fn reopen(bytes: &[u8], s: State) -> NumberedOut
     ensures { outcome_by (said_number result.answer) result.state bytes.now ≡ outcome reopen_ring bytes.now s }
@@ -159,5 +193,35 @@ pub fn make(bytes: &mut [u8], s: State) -> AckOut
     AckOut {
         state,
         answer: Ack::Done,
+    }
+}
+
+// Keeps a write in the ring, to be flushed later.
+pub fn write(
+    bytes: &mut [u8],
+    s: State,
+    node: u32,
+    handle: u32,
+    offset: u32,
+    src: &[u8],
+) -> NumberedOut
+    ensures { outcome_by (said_number result.answer) result.state bytes.new ≡ outcome (write node handle offset src.now) bytes.old s }
+{
+    let judged = judge::judge(bytes, s);
+    let verdict = judged.verdict;
+    let held = judged.held;
+    match verdict {
+        Verdict::Refused(why) => change::no_number(s, why),
+        Verdict::Fits(ring) => change::write_known(
+            bytes,
+            s,
+            ring,
+            held,
+            judged.count,
+            node,
+            handle,
+            offset,
+            src,
+        ),
     }
 }

@@ -1,20 +1,21 @@
 // What stands behind write, unpin and report, on a ring and a state that passed the judge. Document 01, "Moves" and "When the box says no".
-// Only our own crates call it: the callers show that the judge has let the call pass. Each promise is the call's own equation with `planned`: what is said, the new
-// state, and the stores that are to be made. Nothing here changes the ring, or walks it. Two of the answers, with the state beside them, stand here too.
+// Only our own crates call it: the callers show that the judge has let the call pass. Each promise is the call's own equation with `outcome`.
+// A write copies its slots once, the others store one byte; nothing here walks the ring. Two of the answers, with the state beside them, stand here too.
 ghost use Rattle.std.specs.Prelude.{◌≡◌, ◌∷◌, [], ◌++◌, map, true, ◌+◌, ◌≤◌, ◌<◌, take};
-ghost use Rattle.layout.specs.Sizes.{most_slots, most_entries, number_limit};
+ghost use Rattle.layout.specs.Sizes.{most_entries, number_limit};
+ghost use Rattle.layout.specs.Bytes.{Sized};
 ghost use Rattle.walk.specs.Walk.{readable, slots_used};
-ghost use Rattle.plan.specs.Plan.{no_plan};
+ghost use Rattle.store.specs.Store.{head_moved};
+ghost use Rattle.ring.specs.Ring.{slot_after};
 ghost use Rattle.state.specs.Lists.{all, phase_fits, entry_of, unflushed, with_next, with_held};
-ghost use Rattle.state.specs.Pins.{staying};
+ghost use Rattle.state.specs.Pins.{staying, slots_left};
 ghost use Rattle.rules.specs.Refusals.{own};
 ghost use Rattle.rules.specs.Call.{write, unpin, report};
-ghost use Rattle.rules.specs.Plans.{go_plan, planned_by, planned};
+ghost use Rattle.rules.specs.Outcome.{outcome, outcome_by};
 ghost use Rattle.rules.specs.Known.{Known};
 ghost use Rattle.change.specs.Answers.{said_number, said_done, may_of};
 
 use layout::Ring;
-use plan::Plan;
 use reason::Reason;
 use state::{BAD, GOOD, Held, PINS, Pin, State, UNFLUSHED};
 use walk::Entry;
@@ -52,22 +53,6 @@ pub struct AckOut {
     pub answer: Ack,
 }
 
-// With the stores that are still to be made.
-#[derive(Drop)]
-pub struct NumberedPlan {
-    pub state: State,
-    pub answer: Numbered,
-    pub plan: Plan,
-}
-
-#[derive(Drop)]
-pub struct AckPlan {
-    pub state: State,
-    pub answer: Ack,
-    pub plan: Plan,
-}
-
-// A refused call gives back the state that it was given.
 pub fn no_number(s: State, why: Reason) -> NumberedOut
     ensures { (result.state ≡ s) × (result.answer ≡ Numbered.Refused why) }
 {
@@ -86,70 +71,45 @@ pub fn not_done(s: State, why: Reason) -> AckOut
     }
 }
 
-// And plans nothing.
-pub fn plan_no_number(s: State, why: Reason) -> NumberedPlan
-    ensures { (result.state ≡ s) × (result.answer ≡ Numbered.Refused why) × (result.plan ≡ no_plan) }
-{
-    let plan = plan::no_plan();
-    NumberedPlan {
-        state: s,
-        answer: Numbered::Refused(why),
-        plan,
-    }
-}
-
-pub fn plan_not_done(s: State, why: Reason) -> AckPlan
-    ensures { (result.state ≡ s) × (result.answer ≡ Ack.Refused why) × (result.plan ≡ no_plan) }
-{
-    let plan = plan::no_plan();
-    AckPlan {
-        state: s,
-        answer: Ack::Refused(why),
-        plan,
-    }
-}
-
-// Lets go: those that are due leave from the head, and the head is to move on past their slots.
-fn let_go(s: State, ring: Ring, held: [Held; Ring::ENTRIES], count: usize) -> AckPlan
-    requires n_nonzero { (0 < ring.n) × (ring.n ≤ most_slots) × (ring.head < ring.n) × (count ≤ most_entries) × all phase_fits (take count held) ≡ true }
+// The state after the writes that are due have left from the head; the head byte moves on past their slots.
+fn let_go(
+    bytes: &mut [u8],
+    s: State,
+    ring: Ring,
+    held: [Held; Ring::ENTRIES],
+    count: usize,
+) -> State
+    requires sized { Sized bytes.old ring.n }
+    requires head_lt_n { (ring.head < ring.n) × (count ≤ most_entries) × all phase_fits (take count held) ≡ true }
     requires held_bound { slots_used (map entry_of (take count held)) ≤ most_entries }
-    ensures { (result.state ≡ with_held s (staying s.pins (take count held))) × (result.answer ≡ Ack.Done) × (result.plan ≡ go_plan ring (take count held) s) }
+    ensures state { result ≡ with_held s (staying s.pins (take count held)) }
+    ensures bytes { bytes.new ≡ head_moved bytes.old (slot_after ring (slots_left s.pins (take count held))) }
 {
     let pins = s.pins;
     let leaving = state::leave(held, count, pins);
-    let entry = walk::no_entry();
-    let state = state::relist(s, held, leaving.count, count);
-    AckPlan {
-        state,
-        answer: Ack::Done,
-        plan: Plan {
-            n: ring.n,
-            from: ring.head,
-            head: (ring.head + leaving.slots) % ring.n,
-            entry,
-        },
-    }
+    store::move_head(bytes, (ring.head + leaving.slots) % ring.n);
+    state::relist(s, held, leaving.count, count)
 }
 
-// Plans an unpin, on a ring and a state that passed the judge.
-pub fn plan_unpin(
-    bytes: &[u8],
+// Unpins, on a ring and a state that passed the judge.
+pub fn unpin_known(
+    bytes: &mut [u8],
     s: State,
     ring: Ring,
     held: [Held; Ring::ENTRIES],
     count: usize,
     number: u64,
-) -> AckPlan
-    requires { Known bytes.now s ring count held }
-    ensures { planned_by (said_done result.answer) result.state result.plan ≡ planned (unpin number) bytes.now s }
+) -> AckOut
+    requires { Known bytes.old s ring count held }
+    ensures { outcome_by (said_done result.answer) result.state bytes.new ≡ outcome (unpin number) bytes.old s }
 {
     let pins = s.pins;
     if number == 0 {
-        return plan_not_done(s, Reason::NoSuchPin);
+        return not_done(s, Reason::NoSuchPin);
     }
     let place = state::find_pin(pins, PINS, number);
     if place == PINS {
-        return plan_not_done(s, Reason::NoSuchPin);
+        return not_done(s, Reason::NoSuchPin);
     }
     let mut t = s;
     t.pins[place] = Pin {
@@ -157,41 +117,47 @@ pub fn plan_unpin(
         mark: 0,
         node: 0,
     };
-    let_go(t, ring, held, count)
+    let state = let_go(bytes, t, ring, held, count);
+    AckOut {
+        state,
+        answer: Ack::Done,
+    }
 }
 
-// Plans the report of a flush, on a ring and a state that passed the judge.
-pub fn plan_report(
-    bytes: &[u8],
+// Reports a flush, on a ring and a state that passed the judge.
+pub fn report_known(
+    bytes: &mut [u8],
     s: State,
     ring: Ring,
     held: [Held; Ring::ENTRIES],
     count: usize,
     number: u64,
     good: bool,
-) -> AckPlan
-    requires { Known bytes.now s ring count held }
-    ensures { planned_by (said_done result.answer) result.state result.plan ≡ planned (report number good) bytes.now s }
+) -> AckOut
+    requires { Known bytes.old s ring count held }
+    ensures { outcome_by (said_done result.answer) result.state bytes.new ≡ outcome (report number good) bytes.old s }
 {
     if s.flush == 0 {
-        return plan_not_done(s, Reason::NotTheFlush);
+        return not_done(s, Reason::NotTheFlush);
     }
     if number != s.flush {
-        return plan_not_done(s, Reason::NotTheFlush);
+        return not_done(s, Reason::NotTheFlush);
     }
     let mut t = s;
     t.flush = 0;
     if good {
         let moved = state::report_all(held, count, GOOD);
-        return let_go(t, ring, moved, count);
+        let state = let_go(bytes, t, ring, moved, count);
+        return AckOut {
+            state,
+            answer: Ack::Done,
+        };
     }
     let moved = state::report_all(held, count, BAD);
-    let plan = plan::no_plan();
     let state = state::relist(t, moved, 0, count);
-    AckPlan {
+    AckOut {
         state,
         answer: Ack::Done,
-        plan,
     }
 }
 
@@ -237,9 +203,9 @@ fn with_write(s: State, held: [Held; Ring::ENTRIES], count: usize, entry: Entry)
     t
 }
 
-// Plans a write, on a ring and a state that passed the judge.
-pub fn plan_write(
-    bytes: &[u8],
+// Writes, on a ring and a state that passed the judge.
+pub fn write_known(
+    bytes: &mut [u8],
     s: State,
     ring: Ring,
     held: [Held; Ring::ENTRIES],
@@ -248,15 +214,16 @@ pub fn plan_write(
     handle: u32,
     offset: u32,
     src: &[u8],
-) -> NumberedPlan
-    requires { Known bytes.now s ring count held }
-    ensures { planned_by (said_number result.answer) result.state result.plan ≡ planned (write node handle offset src.now) bytes.now s }
+) -> NumberedOut
+    requires { Known bytes.old s ring count held }
+    ensures { outcome_by (said_number result.answer) result.state bytes.new ≡ outcome (write node handle offset src.now) bytes.old s }
 {
     let may = may_write(s, ring, node, offset, src);
     if let May::Refused(why) = may {
-        return plan_no_number(s, why);
+        return no_number(s, why);
     }
     let number = s.next;
+    let n = ring.n;
     let entry = Entry {
         number,
         node,
@@ -264,17 +231,12 @@ pub fn plan_write(
         offset,
         length: src.len() as u32,
         zero: 0,
-        slot: ((ring.head + ring.used) % ring.n) as u32,
+        slot: ((ring.head + ring.used) % n) as u32,
     };
+    store::store(bytes, n, entry, src);
     let state = with_write(s, held, count, entry);
-    NumberedPlan {
+    NumberedOut {
         state,
         answer: Numbered::Number(number),
-        plan: Plan {
-            n: ring.n,
-            from: ring.head,
-            head: ring.head,
-            entry,
-        },
     }
 }

@@ -87,8 +87,6 @@ pub enum Setting {
 #[derive(Drop)]
 pub enum Command {
     Call(Call),
-    // A write, an unpin or a report, cut off after so many steps; a slot that is cut short holds the byte.
-    Cut { steps: usize, byte: u8, call: Call },
     Look(Look),
     Poke { place: usize, byte: u8 },
     Set(Setting),
@@ -318,17 +316,20 @@ fn set_listed(line: &[u8]) -> Command {
     Command::Not
 }
 
-fn write(node: &[u8], handle: &[u8], offset: &[u8], content: &[u8]) -> Command {
-    let Short::Value(node) = word::short_of(node) else {
+fn write(line: &[u8]) -> Command {
+    if !word::is(word::nth(line, 0), b"write") {
+        return Command::Not;
+    }
+    let Short::Value(node) = word::short_of(word::nth(line, 1)) else {
         return Command::Not;
     };
-    let Short::Value(handle) = word::short_of(handle) else {
+    let Short::Value(handle) = word::short_of(word::nth(line, 2)) else {
         return Command::Not;
     };
-    let Short::Value(offset) = word::short_of(offset) else {
+    let Short::Value(offset) = word::short_of(word::nth(line, 3)) else {
         return Command::Not;
     };
-    let Size::Value(count) = bytes::count(content) else {
+    let Size::Value(count) = bytes::count(word::nth(line, 4)) else {
         return Command::Not;
     };
     Command::Call(Call::Write {
@@ -341,6 +342,9 @@ fn write(node: &[u8], handle: &[u8], offset: &[u8], content: &[u8]) -> Command {
 
 // `set pin I NUMBER MARK NODE`.
 fn set_pin(line: &[u8]) -> Command {
+    if !word::is(word::nth(line, 0), b"set") {
+        return Command::Not;
+    }
     if !word::is(word::nth(line, 1), b"pin") {
         return Command::Not;
     }
@@ -399,72 +403,6 @@ fn fill(line: &[u8]) -> Command {
     })
 }
 
-// ---- a call that is cut off: `cut K BYTE` before it
-
-fn cut(line: &[u8], command: Command) -> Command {
-    if !word::is(word::nth(line, 0), b"cut") {
-        return Command::Not;
-    }
-    let Size::Value(steps) = word::size_of(word::nth(line, 1)) else {
-        return Command::Not;
-    };
-    let Byte::Value(byte) = bytes::one(word::nth(line, 2)) else {
-        return Command::Not;
-    };
-    let Command::Call(call) = command else {
-        return Command::Not;
-    };
-    Command::Cut { steps, byte, call }
-}
-
-fn cut_unpin(line: &[u8]) -> Command {
-    if !word::is(word::nth(line, 3), b"unpin") {
-        return Command::Not;
-    }
-    cut(line, unpin(word::nth(line, 4)))
-}
-
-fn cut_report(line: &[u8]) -> Command {
-    if !word::is(word::nth(line, 3), b"report") {
-        return Command::Not;
-    }
-    cut(line, report(word::nth(line, 4), word::nth(line, 5)))
-}
-
-fn cut_write(line: &[u8]) -> Command {
-    if !word::is(word::nth(line, 3), b"write") {
-        return Command::Not;
-    }
-    cut(
-        line,
-        write(
-            word::nth(line, 4),
-            word::nth(line, 5),
-            word::nth(line, 6),
-            word::nth(line, 7),
-        ),
-    )
-}
-
-fn with_four(line: &[u8]) -> Command {
-    if !word::is(word::nth(line, 0), b"write") {
-        return cut_unpin(line);
-    }
-    write(
-        word::nth(line, 1),
-        word::nth(line, 2),
-        word::nth(line, 3),
-        word::nth(line, 4),
-    )
-}
-
-fn with_five(line: &[u8]) -> Command {
-    if !word::is(word::nth(line, 0), b"set") {
-        return cut_report(line);
-    }
-    set_pin(line)
-}
-
 // What a line asks for.
 pub fn command_of(line: &[u8]) -> Command {
     let words = word::count(line);
@@ -474,10 +412,9 @@ pub fn command_of(line: &[u8]) -> Command {
         2 => with_one(name, word::nth(line, 1)),
         3 => with_two(name, word::nth(line, 1), word::nth(line, 2)),
         4 => set_listed(line),
-        5 => with_four(line),
-        6 => with_five(line),
+        5 => write(line),
+        6 => set_pin(line),
         7 => fill(line),
-        8 => cut_write(line),
         _ => Command::Not,
     }
 }

@@ -28,7 +28,7 @@ use Rattle.rules.specs.Call.{fill_read}
 use Rattle.rules.specs.Fill.{is_of, writes_for, fill_count, filled}
 use Rattle.rules.specs.Refusals.{refusal_of}
 use Rattle.rules.specs.Outcome.{says, lent_by, outcome}
-use Rattle.history.specs.World.{World, Move, call, land, cut_off, begins, world}
+use Rattle.history.specs.World.{World, Move, call, land, begins, world}
 use Rattle.history.specs.Tale.{Tale, numbers_of, tale}
 use Rattle.history.specs.Fair.{AllFair}
 use Rattle.history.proofs.Seeing.{seen, cached_seen}
@@ -102,7 +102,6 @@ module _ (r : List ℕ) (makeable : is_makeable (length r) ≡ true) (files : �
       reaches_by p.node p.mark files S p refl refl (world begin (ls ++ base)).state (tale begin (ls ++ base)) _ mark e
       (change c (world begin (ls ++ base)).ring (world begin (ls ++ base)).state (tale begin (ls ++ base)) f.0.not_made) (since ls f.1 d.1 before)
   since (land j ∷ ls) f d e = since ls f.1 d e
-  since (cut_off c i junk ∷ ls) f d e = absurd d
 
   -- the world and the tale at the fill
   abbrev W : World

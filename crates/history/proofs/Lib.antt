@@ -12,7 +12,6 @@ pub mod Rising
 pub mod Starting
 pub mod Restarting
 pub mod Landing
-pub mod Cutting
 pub mod Stepping
 pub mod Room
 pub mod Numbers

@@ -24,7 +24,7 @@ use Rattle.rules.specs.Call.{Call, Kind, makes, reopens, writes, pins, unpins, a
 use Rattle.rules.specs.Flush.{has_batch}
 use Rattle.rules.specs.Refusals.{refusal_of}
 use Rattle.rules.specs.Outcome.{report_done, start_done, done_by, outcome}
-use Rattle.history.specs.World.{World, Move, call, land, cut_off, world}
+use Rattle.history.specs.World.{World, Move, call, land, world}
 use Rattle.history.specs.Tale.{Tale, among, numbers_of, in_reach, least, leave, pin_of, tell, tell_by, tale}
 use Rattle.history.specs.Fair.{AllFair}
 use Rattle.state.proofs.Those.{each_those}
@@ -154,4 +154,3 @@ tale_marked W [] f = tt
 tale_marked W (call c ∷ ms) f =
     marked_by c (world W ms).ring (world W ms).state (tale W ms) (tale_marked W ms f.1) f.0.not_made (refusal_of c (world W ms).ring (world W ms).state) refl
 tale_marked W (land j ∷ ms) f = tale_marked W ms f.1
-tale_marked W (cut_off c k junk ∷ ms) f = tt

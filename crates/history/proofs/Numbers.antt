@@ -17,7 +17,7 @@ use Rattle.rules.specs.Call.{Call, Kind, makes, reopens, writes, pins, unpins, a
 use Rattle.rules.specs.Flush.{has_batch}
 use Rattle.rules.specs.Refusals.{refusal_of}
 use Rattle.rules.specs.Outcome.{refuses, lent_by, report_done, start_done, done_by, outcome}
-use Rattle.history.specs.World.{World, Move, call, land, cut_off, is_done, world}
+use Rattle.history.specs.World.{World, Move, call, land, is_done, world}
 use Rattle.history.specs.Tale.{Tale, tell, tell_by, tale}
 use Rattle.history.specs.Fair.{AllFair}
 use Rattle.history.proofs.Stepping.{refused_not}
@@ -112,7 +112,6 @@ numbers_rise W [] f = tt
 numbers_rise W (call c ∷ ms) f =
     step_by c (world W ms).ring (world W ms).state (tale W ms) (numbers_rise W ms f.1) f.0.not_made (refusal_of c (world W ms).ring (world W ms).state) refl
 numbers_rise W (land k ∷ ms) f = numbers_rise W ms f.1
-numbers_rise W (cut_off c k junk ∷ ms) f = tt
 
 -- no call but a restart takes a number back
 module _ (c : Call) (r : List ℕ) (s : State) (not_made : is_one c (makes ∷ []) ≡ false) (not-restart : is_one c (reopens ∷ []) ≡ false) where

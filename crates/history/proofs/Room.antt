@@ -4,24 +4,24 @@ use mathlib.Core.Path.{◌≡◌, refl, sym, ap, ◌∙◌}
 use mathlib.Core.Bool.{Bool, true, false}
 use mathlib.Core.List.{List, [], ◌∷◌, map}
 use mathlib.Core.Option.{Option, none, some}
-use lib.ListN.{length}
+use lib.ListN.{length, length-set}
 use Rattle.reason.specs.declared.Reason.{Reason}
 use Rattle.layout.specs.Sizes.{slot_size, head_size, slots_of}
+use Rattle.layout.specs.Bytes.{put}
 use Rattle.layout.specs.declared.Ring.{Ring}
 use Rattle.layout.proofs.Tests.{never}
 use Rattle.layout.proofs.Views.{bytes_length}
+use Rattle.layout.proofs.Puts.{length_put}
 use Rattle.walk.specs.declared.Entry.{Entry}
 use Rattle.walk.specs.Walk.{slots_used, write_of}
-use Rattle.store.specs.Store.{store_steps, stored, head_steps, head_moved}
-use Rattle.store.proofs.Steps.{run_length, cut_length}
+use Rattle.store.specs.Store.{entry_bytes, tail_after, stored, head_moved}
 use Rattle.state.specs.declared.State.{State}
 use Rattle.state.specs.declared.Held.{Held}
-use Rattle.rules.specs.Call.{Call, Kind, makes, reopens, writes, pins, unpins, asks_end, reports, starts, fills, takes_ticket, asks_ticket, asks_turn, is_one, reopen_ring}
+use Rattle.rules.specs.Call.{Call, Kind, makes, reopens, writes, pins, unpins, asks_end, reports, starts, fills, takes_ticket, asks_ticket, asks_turn, is_one}
 use Rattle.rules.specs.Flush.{has_batch}
 use Rattle.rules.specs.Refusals.{refusal_of}
 use Rattle.rules.specs.Outcome.{report_done, start_done, done_by, outcome}
-use Rattle.rules.specs.Steps.{steps_of, ring_cut}
-use Rattle.history.specs.World.{World, Move, call, land, cut_off, world}
+use Rattle.history.specs.World.{World, Move, call, land, world}
 use Rattle.history.specs.Tale.{slots_taken}
 use Rattle.history.specs.Fair.{AllFair}
 
@@ -29,11 +29,11 @@ use Rattle.history.specs.Fair.{AllFair}
 
 stored_length : (r : List ℕ) (n : ℕ) (e : Entry) (bs : List ℕ) → length (stored r n e bs) ≡ length r
 unfolding stored
-stored_length r n e bs = run_length (store_steps n e bs) r
+stored_length r n e bs = length-set (put r n (e.slot * slot_size) (entry_bytes e bs)) 3 (tail_after n e) ∙ length_put (entry_bytes e bs) r n (e.slot * slot_size)
 
 moved_length : (r : List ℕ) (slot : ℕ) → length (head_moved r slot) ≡ length r
 unfolding head_moved
-moved_length r slot = run_length (head_steps r slot) r
+moved_length r slot = length-set r 2 slot
 
 report_length : (b : Bool) (g : Ring) (hs : List Held) (r : List ℕ) (s : State) → length (report_done b g hs r s).ring ≡ length r
 report_length true g hs r s = moved_length r _
@@ -67,10 +67,6 @@ pub world_length : (W : World) (ms : List Move) → AllFair W ms → length (wor
 world_length W [] f = refl
 world_length W (call c ∷ ms) f = length_by c (world W ms).ring (world W ms).state f.0.not_made (refusal_of c (world W ms).ring (world W ms).state) refl ∙ world_length W ms f.1
 world_length W (land k ∷ ms) f = world_length W ms f.1
-world_length W (cut_off c k junk ∷ ms) f =
-    let r = (world W ms).ring in
-    let s = (world W ms).state in
-    length_by reopen_ring (ring_cut c r s k junk) s refl (refusal_of reopen_ring (ring_cut c r s k junk) s) refl ∙ cut_length (steps_of c r s) r k junk ∙ world_length W ms f.1
 
 -- ---- the slots in use
 

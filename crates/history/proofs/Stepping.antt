@@ -21,15 +21,12 @@ use Rattle.state.proofs.Finding.{place_there}
 use Rattle.rules.specs.Call.{Call, Kind, makes, reopens, writes, pins, unpins, asks_end, reports, starts, fills, takes_ticket, asks_ticket, asks_turn, is_one}
 use Rattle.rules.specs.Flush.{has_batch}
 use Rattle.rules.specs.Refusals.{refusal_of}
-use Rattle.ring.proofs.Cutting.{alike_same}
-use Rattle.rules.specs.Steps.{ring_cut, is_made}
 use Rattle.rules.specs.Outcome.{Outcome, says, refuses, lent_by, report_done, start_done, done_by, outcome}
 use Rattle.rules.proofs.Saying.{number_some}
 use Rattle.rules.proofs.Standing.{Real}
 use Rattle.rules.proofs.Staying.{free, numbered, may_write}
-use Rattle.rules.proofs.Cuts.{cut_made, cut_unmade}
-use Rattle.history.specs.World.{World, Move, call, land, cut_off, is_done, out_after, called, after}
-use Rattle.history.specs.Tale.{Tale, tell, tell_by, cut_told, told}
+use Rattle.history.specs.World.{World, Move, call, land, is_done, out_after, called, after}
+use Rattle.history.specs.Tale.{Tale, tell, tell_by, told}
 use Rattle.history.specs.Fair.{FairCall, Fair}
 use Rattle.history.proofs.Agreeing.{Agrees, OutFits, is_none}
 use Rattle.history.proofs.Writing.{agrees_write}
@@ -38,7 +35,6 @@ use Rattle.history.proofs.Releasing.{agrees_unpin, agrees_bad, agrees_good}
 use Rattle.history.proofs.Starting.{agrees_start, front_sheet}
 use Rattle.history.proofs.Restarting.{agrees_reopen}
 use Rattle.history.proofs.Landing.{agrees_land}
-use Rattle.history.proofs.Cutting.{agrees_restarted}
 
 -- ---- the same world and tale, told in other words
 
@@ -209,18 +205,7 @@ module _ (files : ℕ → List ℕ) (W : World) (t : Tale) (k : Agrees files W t
   pub agrees_call : Agrees files (after W (call c)) (told W (call c) t)
   agrees_call = step_by (refusal_of c r s) refl
 
-  -- a call that was cut off: the restart agrees with the tale of the whole call, or with that of none
-  cut_by : (i : ℕ) (junk : List ℕ) (b : Bool) → is_made c i ≡ b → Agrees files (after W (cut_off c i junk)) (cut_told b t (tell t c (outcome c r s).said))
-  cut_by i junk true m =
-      agrees_restarted files (after W (call c)) (told W (call c) t) agrees_call (ring_cut c r s i junk)
-      (alike_same (outcome c r s).ring (ring_cut c r s i junk) (sym (cut_made c r s fair.not_made i junk m))) s W.out
-  cut_by i junk false m = agrees_restarted files W t k (ring_cut c r s i junk) (cut_unmade c r s fair.not_made i junk m) s W.out
-
-  pub agrees_cut : (i : ℕ) (junk : List ℕ) → Agrees files (after W (cut_off c i junk)) (told W (cut_off c i junk) t)
-  agrees_cut i junk = cut_by i junk (is_made c i) refl
-
 -- one move more
 pub agrees_move : (files : ℕ → List ℕ) (W : World) (t : Tale) → Agrees files W t → (m : Move) → Fair W t m → Agrees files (after W m) (told W m t)
 agrees_move files W t k (call c) f = agrees_call files W t k c f
 agrees_move files W t k (land j) f = agrees_land files W t k j
-agrees_move files W t k (cut_off c i junk) f = agrees_cut files W t k c f i junk

@@ -17,9 +17,8 @@ use Rattle.state.proofs.Bools.{no_both, yes_both}
 use Rattle.state.proofs.Pairs.{any_append}
 use Rattle.state.proofs.Finding.{Each, each_join, each_right}
 use Rattle.rules.specs.Call.{reopens, is_one}
-use Rattle.rules.specs.Steps.{is_made}
-use Rattle.history.specs.Tale.{Tale, among, leave, is_pinned, cut_told, tale}
-use Rattle.history.specs.World.{World, Move, call, land, cut_off, world}
+use Rattle.history.specs.Tale.{Tale, among, leave, is_pinned, tale}
+use Rattle.history.specs.World.{World, Move, call, land, world}
 use Rattle.history.specs.Fair.{AllFair}
 use Rattle.history.proofs.Numbers.{next_up}
 use Rattle.history.proofs.Changes.{Change, stays, grew, let_go, change}
@@ -138,17 +137,10 @@ suffix_by s t u (let_go good a b) k =
     nothing (w ∷ old) [] e new = never (cc)
     nothing (w ∷ old) (v ∷ gone) e new = never (cc)
 
-suffix_cut : (b : Bool) (t u : Tale) → Suffix t → Suffix u → Suffix (cut_told b t u)
-suffix_cut true t u k o = record { gone = o.gone; is = o.is }
-suffix_cut false t u k o = record { gone = k.gone; is = k.is }
-
 pub tale_suffix : (W : World) (ms : List Move) → AllFair W ms → Suffix (tale W ms)
 tale_suffix W [] f = record { gone = []; is = refl }
 tale_suffix W (call c ∷ ms) f = suffix_by (world W ms).state (tale W ms) _ (change c (world W ms).ring (world W ms).state (tale W ms) f.0.not_made) (tale_suffix W ms f.1)
 tale_suffix W (land j ∷ ms) f = let k = tale_suffix W ms f.1 in record { gone = k.gone; is = k.is }
-tale_suffix W (cut_off c j junk ∷ ms) f =
-    let k = tale_suffix W ms f.1 in
-    suffix_cut (is_made c j) (tale W ms) _ k (suffix_by (world W ms).state (tale W ms) _ (change c (world W ms).ring (world W ms).state (tale W ms) f.0.not_made) k)
 
 -- ---- from the ticket on
 
@@ -157,7 +149,6 @@ abbrev pub NoRestart : List Move → Type 0
 NoRestart [] = Unit {0}
 NoRestart (call c ∷ ms) = (is_one c (reopens ∷ []) ≡ false) × NoRestart ms
 NoRestart (land j ∷ ms) = NoRestart ms
-NoRestart (cut_off c k junk ∷ ms) = ⊥
 
 -- numbers given before them are below the next
 pub later_next : (W : World) (base : List Move) (n : ℕ) → n < (world W base).state.next → (later : List Move) → AllFair W (later ++ base) → NoRestart later → n < (world W (later ++ base)).state.next
@@ -167,7 +158,6 @@ later_next W base n h (call c ∷ ms) f d =
     let v = later_next W base n h ms f.1 d.1 in
     omega arith
 later_next W base n h (land j ∷ ms) f d = later_next W base n h ms f.1 d
-later_next W base n h (cut_off c k junk ∷ ms) f d = absurd d
 
 module _ (W : World) (base : List Move) (before : List Write) (n : ℕ) (k : Since before n (tale W base).held) (h : n < (world W base).state.next) where
   pub later_since : (later : List Move) → AllFair W (later ++ base) → NoRestart later → Since before n (tale W (later ++ base)).held
@@ -176,7 +166,6 @@ module _ (W : World) (base : List Move) (before : List Write) (n : ℕ) (k : Sin
       since_by before n (world W (ms ++ base)).state (tale W (ms ++ base)) _ (later_next W base n h ms f.1 d.1)
       (change c (world W (ms ++ base)).ring (world W (ms ++ base)).state (tale W (ms ++ base)) f.0.not_made) (later_since ms f.1 d.1)
   later_since (land j ∷ ms) f d = let z = later_since ms f.1 d in record { gone = z.gone; old = z.old; new = z.new; then = z.then; now = z.now; below = z.below; above = z.above }
-  later_since (cut_off c i junk ∷ ms) f d = absurd d
 
 -- asked of the writes that are held, a ticket looks at those that were accepted before it
 module _ (q : Write → Bool) (n : ℕ) where

@@ -5,7 +5,7 @@ use Rattle.std.proofs.Math.Option.{some}
 use Rattle.sheet.specs.Sheet.{puts_in}
 use Rattle.rules.specs.Call.{Call, makes, reports, is_one}
 use Rattle.rules.specs.Outcome.{outcome}
-use Rattle.history.specs.World.{World, Move, call, land, cut_off, is_done, world}
+use Rattle.history.specs.World.{World, Move, call, land, is_done, world}
 use Rattle.history.specs.Tale.{Tale, among, tale}
 
 pub record FairCall (W : World) (t : Tale) (c : Call) : Type 0 where
@@ -21,7 +21,6 @@ pub record FairCall (W : World) (t : Tale) (c : Call) : Type 0 where
 abbrev pub Fair : World → Tale → Move → Type 0
 Fair W t (call c) = FairCall W t c
 Fair W t (land k) = Unit {0}
-Fair W t (cut_off c k junk) = FairCall W t c
 
 abbrev pub AllFair : World → List Move → Type 0
 AllFair W [] = Unit {0}

@@ -9,8 +9,7 @@ use Rattle.state.specs.Lists.{pick, any, those}
 use Rattle.state.specs.Batch.{most_batch}
 use Rattle.rules.specs.Call.{Call, Kind, makes, reopens, writes, pins, unpins, asks_end, reports, starts, fills, takes_ticket, asks_ticket, asks_turn}
 use Rattle.rules.specs.Outcome.{Said, outcome}
-use Rattle.rules.specs.Steps.{is_made}
-use Rattle.history.specs.World.{World, Move, call, land, cut_off, is_done, world}
+use Rattle.history.specs.World.{World, Move, call, land, is_done, world}
 
 pub record Tale : Type 0 where
   -- all accepted writes, in order
@@ -103,7 +102,7 @@ reported_by true t =
     tells t.accepted (leave good t.live t.held) good [] t.live [] t.given
 reported_by false t = tells t.accepted t.held t.good [] t.live [] t.given
 
-abbrev pub restarted : Tale → Tale
+abbrev restarted : Tale → Tale
 restarted t = tells t.accepted t.held [] [] [] [] []
 
 abbrev numbered : Tale → ℕ → Tale
@@ -139,15 +138,10 @@ tell t c said = pick (is_done said) (tell_by c.kind c said.values t) t
 abbrev pub hear : Tale → ℕ → Tale
 hear t k = tells t.accepted t.held t.good t.batch t.live (k ∷ t.landed) t.given
 
--- a call that was cut off counts as made exactly if its deciding byte was stored: the tail byte of a write, the head byte of a report or an unpin; then comes a restart
-abbrev pub cut_told : Bool → Tale → Tale → Tale
-cut_told made t u = restarted (pick made u t)
-
 -- the tale of moves from a world on, the newest first
 abbrev pub told : World → Move → Tale → Tale
 told W (call c) t = tell t c (outcome c W.ring W.state).said
 told W (land k) t = hear t k
-told W (cut_off c k junk) t = cut_told (is_made c k) t (tell t c (outcome c W.ring W.state).said)
 
 abbrev pub tale : World → List Move → Tale
 tale W [] = nothing_yet

@@ -9,9 +9,8 @@ use Rattle.state.specs.Lists.{pick, reopened}
 use Rattle.shore.specs.File.{Put, put}
 use Rattle.shore.specs.Cover.{or_else}
 use Rattle.sheet.specs.Sheet.{node_in, puts_in}
-use Rattle.rules.specs.Call.{Call, reopens, reports, starts, is_one, reopen_ring}
+use Rattle.rules.specs.Call.{Call, reopens, reports, starts, is_one}
 use Rattle.rules.specs.Outcome.{Said, Outcome, outcome}
-use Rattle.rules.specs.Steps.{ring_cut}
 
 -- the ring's bytes, the state as the last call gave it back, the shore's files by node, and the bytes of the sheet that is out, if one is
 pub record World : Type 0 where
@@ -20,12 +19,10 @@ pub record World : Type 0 where
   pub shore : ℕ → List ℕ
   pub out : Option (List ℕ)
 
--- a call with its arguments, a reopen call being a restart; byte k of those that the sheet lays, landing on shore; or a call that was cut off after k steps, with any bytes in
--- the slot that was cut short, and the restart that follows
+-- a call with its arguments, a reopen call being a restart; or byte k of those that the sheet lays, landing on shore
 pub data Move : Type 0 where
   call : Call → Move
   land : ℕ → Move
-  cut_off : Call → ℕ → List ℕ → Move
 
 -- "From an empty ring": one made in a buffer
 abbrev pub begins : List ℕ → (ℕ → List ℕ) → World
@@ -70,21 +67,11 @@ abbrev pub landed : (ℕ → List ℕ) → Option (List ℕ) → ℕ → ℕ →
 landed shore none k n = shore n
 landed shore (some sheet) k n = put_on shore (node_in sheet) (nth k (puts_in sheet)) n
 
--- ---- a cut, and the restart that follows
-
-abbrev pub restarted : World → World
-restarted W = called W reopen_ring (outcome reopen_ring W.ring W.state)
-
--- the call gave nothing back: no state, no sheet
-abbrev pub broken : World → Call → ℕ → List ℕ → World
-broken W c k junk = record { ring = ring_cut c W.ring W.state k junk; state = W.state; shore = W.shore; out = W.out }
-
 -- ---- a history: moves, the newest first
 
 abbrev pub after : World → Move → World
 after W (call c) = called W c (outcome c W.ring W.state)
 after W (land k) = record { ring = W.ring; state = W.state; shore = landed W.shore W.out k; out = W.out }
-after W (cut_off c k junk) = restarted (broken W c k junk)
 
 abbrev pub world : World → List Move → World
 world W [] = W

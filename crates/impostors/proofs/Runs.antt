@@ -2,7 +2,7 @@
 use mathlib.Core.Path.{◌≡◌, refl, ap}
 use mathlib.Core.List.{List, [], ◌∷◌}
 use Rattle.rules.specs.Outcome.{outcome}
-use Rattle.history.specs.World.{World, Move, call, land, cut_off, after, world}
+use Rattle.history.specs.World.{World, Move, call, land, after, world}
 use Rattle.history.specs.Tale.{tale}
 use Rattle.impostors.specs.Boxes.{world_by, tale_by}
 
@@ -10,10 +10,8 @@ pub our_world : (W : World) (ms : List Move) → world_by outcome W ms ≡ world
 our_world W [] = refl
 our_world W (call c ∷ ms) = ap (λ X. after X (call c)) (our_world W ms)
 our_world W (land k ∷ ms) = ap (λ X. after X (land k)) (our_world W ms)
-our_world W (cut_off c k junk ∷ ms) = ap (λ X. after X (cut_off c k junk)) (our_world W ms)
 
 pub our_tale : (W : World) (ms : List Move) → tale_by outcome W ms ≡ tale W ms
 our_tale W [] = refl
 our_tale W (call c ∷ ms) = rw (our_world W ms, our_tale W ms) refl
 our_tale W (land k ∷ ms) = rw (our_tale W ms) refl
-our_tale W (cut_off c k junk ∷ ms) = rw (our_world W ms, our_tale W ms) refl

@@ -2,7 +2,7 @@
 use Prim.Native.Nat.{ℕ}
 use mathlib.Core.Path.{◌≡◌, refl, sym, ap, ◌∙◌}
 use mathlib.Core.Bool.{Bool, true, false, not}
-use mathlib.Core.List.{List, [], ◌∷◌, ◌++◌, map}
+use mathlib.Core.List.{List, [], ◌∷◌}
 use lib.Dec.{eqb}
 use borrow.Author.Tests.{eq-eqb, eqb-true}
 use Rattle.layout.specs.Bytes.{round, both, is_ring_length, zeros_at, bytes_at, bytes2, bytes4, bytes8, number2, number4, number8, put}
@@ -10,9 +10,7 @@ use Rattle.layout.proofs.Tests.{never, both_left, both_right}
 use Rattle.walk.specs.Header.{is_header, pick_header, header_of}
 use Rattle.walk.specs.Entry.{valid_fields}
 use Rattle.walk.specs.Walk.{walk_in, walk, reading_of, is_entry, pick_step}
-use Rattle.store.specs.Steps.{put_at, run, cut}
-use Rattle.image.specs.Image.{name_bytes, range_bytes, head_bytes, entry_bytes}
-use Rattle.store.specs.Store.{made, slot_steps, store_steps, stored, head_steps, head_moved}
+use Rattle.store.specs.Store.{made, name_bytes, range_bytes, head_bytes, entry_bytes, stored, head_moved}
 use Rattle.state.specs.Lists.{all}
 use Rattle.state.specs.Moves.{move_of, reported}
 use Rattle.state.specs.Pins.{mark_of, keeps, is_due, leaving, staying}
@@ -26,9 +24,7 @@ use Rattle.sheet.specs.Sheet.{key_of, goes_on, gather, cut_in, cut_all, pieces_o
 use Rattle.rules.specs.Fill.{filled_from}
 use Rattle.rules.specs.Refusals.{refusal_of}
 use Rattle.rules.specs.Outcome.{outcome}
-use Rattle.rules.specs.Steps.{steps_of}
 use Rattle.impostors.specs.Impostors.{Shown, ShutOut, impostors, own_mark_keeps_files}
-use Rattle.impostors.specs.Steppers.{cut_impostors}
 
 -- ---- the test, and what it shows
 
@@ -56,27 +52,15 @@ shut : (i : Shown) → is_shut i ≡ true → ShutOut i
 shut i e = (both_left _ _ e, λ same. never (let w : true ≡ false = sym (both_right i.fair _ e) ∙ ap not (ap (alike i.asked) (sym same) ∙ alike_same i.asked) in cc))
 
 computed : all is_shut impostors ≡ true
-unfolding round both is_ring_length zeros_at bytes2 bytes4 bytes8 put is_header pick_header header_of walk_in walk reading_of made name_bytes range_bytes head_bytes entry_bytes put_at run slot_steps store_steps stored move_of reported mark_of keeps is_due leaving staying valid_fields is_entry pick_step head_steps head_moved listed_fits list_fits next_fits pins_differ pins_fit phases_fit nodes_fit pair_fits flight_fits head_stays fits refusal_of outcome number2 number4 number8 later_end turn_of bytes_at spans byte_over key_of goes_on gather cut_in cut_all pieces_of list_of data_by sheet_by sheet_of filled_from batch_of take_first laid_at putByte lay puts puts_all node_in pieces_at puts_at puts_in
+unfolding round both is_ring_length zeros_at bytes2 bytes4 bytes8 put is_header pick_header header_of walk_in walk reading_of made name_bytes range_bytes head_bytes entry_bytes stored move_of reported mark_of keeps is_due leaving staying valid_fields is_entry pick_step head_moved listed_fits list_fits next_fits pins_differ pins_fit phases_fit nodes_fit pair_fits flight_fits head_stays fits refusal_of outcome number2 number4 number8 later_end turn_of bytes_at spans byte_over key_of goes_on gather cut_in cut_all pieces_of list_of data_by sheet_by sheet_of filled_from batch_of take_first laid_at putByte lay puts puts_all node_in pieces_at puts_at puts_in
 computed = refl
 
 pub all_shut : Each ShutOut impostors
 all_shut = each_by _ _ impostors shut (each_true is_shut impostors computed)
 
-cuts_computed : all is_shut cut_impostors ≡ true
-unfolding round both is_ring_length zeros_at bytes2 bytes4 bytes8 put is_header pick_header header_of walk_in walk reading_of made name_bytes range_bytes head_bytes entry_bytes put_at run cut steps_of slot_steps store_steps stored move_of reported mark_of keeps is_due leaving staying valid_fields is_entry pick_step head_steps head_moved listed_fits list_fits next_fits pins_differ pins_fit phases_fit nodes_fit pair_fits flight_fits head_stays fits refusal_of outcome number2 number4 number8 later_end turn_of bytes_at spans byte_over key_of goes_on gather cut_in cut_all pieces_of list_of data_by sheet_by sheet_of filled_from batch_of take_first laid_at putByte lay puts puts_all node_in pieces_at puts_at puts_in
-cuts_computed = refl
-
--- what is asked and what is given: a write lost, a write too many, one that left without the other
-pub cuts_are : map (λ i. i.asked) cut_impostors ++ map (λ i. i.given) cut_impostors ≡ (1 ∷ []) ∷ (1 ∷ []) ∷ [] ∷ [] ∷ (1 ∷ 2 ∷ []) ∷ (2 ∷ []) ∷ []
-unfolding round both is_ring_length zeros_at bytes2 bytes4 bytes8 put is_header pick_header header_of walk_in walk reading_of made name_bytes range_bytes head_bytes entry_bytes put_at run cut steps_of slot_steps store_steps stored move_of reported mark_of keeps is_due leaving staying valid_fields is_entry pick_step head_steps head_moved listed_fits list_fits next_fits pins_differ pins_fit phases_fit nodes_fit pair_fits flight_fits head_stays fits refusal_of outcome number2 number4 number8 later_end turn_of bytes_at spans byte_over key_of goes_on gather cut_in cut_all pieces_of list_of data_by sheet_by sheet_of filled_from batch_of take_first laid_at putByte lay puts puts_all node_in pieces_at puts_at puts_in
-cuts_are = refl
-
-pub all_cuts_shut : Each ShutOut cut_impostors
-all_cuts_shut = each_by _ _ cut_impostors shut (each_true is_shut cut_impostors cuts_computed)
-
 -- a wrong mark breaks only the fill claim: the file stays whole
 whole_still : alike own_mark_keeps_files.given own_mark_keeps_files.asked ≡ true
-unfolding round both is_ring_length zeros_at bytes2 bytes4 bytes8 put is_header pick_header header_of walk_in walk reading_of made name_bytes range_bytes head_bytes entry_bytes put_at run slot_steps store_steps stored move_of reported mark_of keeps is_due leaving staying valid_fields is_entry pick_step head_steps head_moved listed_fits list_fits next_fits pins_differ pins_fit phases_fit nodes_fit pair_fits flight_fits head_stays fits refusal_of outcome number2 number4 number8 later_end turn_of bytes_at spans byte_over key_of goes_on gather cut_in cut_all pieces_of list_of data_by sheet_by sheet_of filled_from batch_of take_first laid_at putByte lay puts puts_all node_in pieces_at puts_at puts_in
+unfolding round both is_ring_length zeros_at bytes2 bytes4 bytes8 put is_header pick_header header_of walk_in walk reading_of made name_bytes range_bytes head_bytes entry_bytes stored move_of reported mark_of keeps is_due leaving staying valid_fields is_entry pick_step head_moved listed_fits list_fits next_fits pins_differ pins_fit phases_fit nodes_fit pair_fits flight_fits head_stays fits refusal_of outcome number2 number4 number8 later_end turn_of bytes_at spans byte_over key_of goes_on gather cut_in cut_all pieces_of list_of data_by sheet_by sheet_of filled_from batch_of take_first laid_at putByte lay puts puts_all node_in pieces_at puts_at puts_in
 whole_still = refl
 
 pub only_the_fill : own_mark_keeps_files.given ≡ own_mark_keeps_files.asked

@@ -8,11 +8,10 @@ use Rattle.state.specs.declared.State.{State}
 use Rattle.state.specs.Lists.{pick, all, those}
 use Rattle.shore.specs.File.{lay, puts_all}
 use Rattle.sheet.specs.Sheet.{puts_in}
-use Rattle.rules.specs.Call.{Call, reports, is_one, reopen_ring}
-use Rattle.rules.specs.Steps.{is_made}
+use Rattle.rules.specs.Call.{Call, reports, is_one}
 use Rattle.rules.specs.Outcome.{Outcome}
-use Rattle.history.specs.World.{World, Move, call, land, cut_off, begins, called, broken, after}
-use Rattle.history.specs.Tale.{Tale, nothing_yet, among, is_of, tell, hear, cut_told}
+use Rattle.history.specs.World.{World, Move, call, land, begins, called, after}
+use Rattle.history.specs.Tale.{Tale, nothing_yet, among, is_of, tell, hear}
 
 -- a box is what it makes of any call on any ring and state
 abbrev pub Box : Type 0
@@ -23,7 +22,6 @@ Box = Call → List ℕ → State → Outcome
 abbrev pub after_by : Box → World → Move → World
 after_by box W (call c) = called W c (box c W.ring W.state)
 after_by box W (land k) = after W (land k)
-after_by box W (cut_off c k junk) = let U = broken W c k junk in called U reopen_ring (box reopen_ring U.ring U.state)
 
 abbrev pub world_by : Box → World → List Move → World
 world_by box W [] = W
@@ -32,7 +30,6 @@ world_by box W (m ∷ ms) = after_by box (world_by box W ms) m
 abbrev pub told_by : Box → World → Move → Tale → Tale
 told_by box W (call c) t = tell t c (box c W.ring W.state).said
 told_by box W (land k) t = hear t k
-told_by box W (cut_off c k junk) t = cut_told (is_made c k) t (tell t c (box c W.ring W.state).said)
 
 abbrev pub tale_by : Box → World → List Move → Tale
 tale_by box W [] = nothing_yet
@@ -51,7 +48,6 @@ whole_landed (some sheet) landed = all (λ k. among k landed) (below (length (pu
 abbrev is_fair : World → Tale → Move → Bool
 is_fair W t (call c) = pick (both (is_one c (reports ∷ [])) c.good) (whole_landed W.out t.landed) true
 is_fair W t (land k) = true
-is_fair W t (cut_off c k junk) = pick (both (is_one c (reports ∷ [])) c.good) (whole_landed W.out t.landed) true
 
 abbrev pub all_fair : Box → World → List Move → Bool
 all_fair box W [] = true

@@ -1,3 +1,2 @@
 pub mod Boxes
 pub mod Impostors
-pub mod Steppers

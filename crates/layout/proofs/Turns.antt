@@ -5,10 +5,11 @@ use mathlib.Core.List.{List, [], ◌++◌, append-nil}
 use native.Mathlib.Omega.{arith}
 use native.Mathlib.Nat.{mod-lt, mod-add-mod, mod_self, sub-zero}
 use borrow.Rule.Slice.PartMut.{mid_of, post_of, put_mid, mid_len}
-use lib.ListN.{length, take, drop, length-append, length-drop, drop_of_length-le}
-use lib.Seq.{length-take-le, take_at}
-use Rattle.layout.specs.Bytes.{bytes_at}
+use lib.ListN.{length, take, drop, replicate, length-append, length-drop, length-replicate, drop_of_length-le, take-append-drop, replicate-append-replicate}
+use lib.Seq.{take_all, length-take-le, take_at}
+use Rattle.layout.specs.Bytes.{bytes_at, put}
 use Rattle.layout.proofs.Views.{bytes_length, bytes_append}
+use Rattle.layout.proofs.Puts.{put_join}
 
 -- ---- neither move goes round the end
 
@@ -46,3 +47,18 @@ taken_both f p a l ys zs h one two =
     let w : a + (length l - a) ≡ length l = omega arith in
     ap (λ x. x ++ (zs ++ post_of a (length l - a) whole)) front ∙ ap (λ x. bytes_at f p a ++ (zs ++ x)) back ∙ ap (◌++◌ (bytes_at f p a)) (append-nil zs ∙ z)
     ∙ sym (bytes_append a (length l - a) f p) ∙ ap (bytes_at f p) w
+
+-- ---- storing: one move after the other is both
+
+pub put_both : (bs r r₁ r₂ : List ℕ) (n p a : ℕ) → a ≤ length bs → r₁ ≡ put r n p (take (a - 0) bs) → r₂ ≡ put r₁ n (p + a) (take (length bs - a) (drop a bs)) → r₂ ≡ put r n p bs
+put_both bs r r₁ r₂ n p a h one two =
+    let k : length (take a bs) ≡ a = length-take-le a bs h in
+    let first : r₁ ≡ put r n p (take a bs) = one ∙ ap (λ x. put r n p (take x bs)) (sub-zero a) in
+    let rest : take (length bs - a) (drop a bs) ≡ drop a bs = take_all (length bs - a) (drop a bs) (let y = length-drop a bs in omega arith) in
+    put_join (take a bs) (drop a bs) r n p first (two ∙ ap (put r₁ n (p + a)) rest ∙ ap (λ x. put r₁ n (p + x) (drop a bs)) (sym k)) ∙ ap (put r n p) (take-append-drop a bs)
+
+pub zeros_both : (r r₁ r₂ : List ℕ) (n p a c : ℕ) → a ≤ c → r₁ ≡ put r n p (replicate a 0) → r₂ ≡ put r₁ n (p + a) (replicate (c - a) 0) → r₂ ≡ put r n p (replicate c 0)
+zeros_both r r₁ r₂ n p a c h one two =
+    let w : a + (c - a) ≡ c = omega arith in
+    put_join (replicate a 0) (replicate (c - a) 0) r n p one (two ∙ ap (λ x. put r₁ n (p + x) (replicate (c - a) 0)) (sym (length-replicate {A = ℕ} a 0)))
+    ∙ ap (put r n p) (replicate-append-replicate a (c - a) 0 ∙ ap (λ k. replicate k 0) w)

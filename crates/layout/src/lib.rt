@@ -2,7 +2,7 @@
 // zeros, and copies round the ring's end in two moves.
 // Document 01, "The ring in battery memory". Every function here is one pass over the bytes it is
 // told of, and only our own crates call it: the callers show what it requires.
-ghost use Rattle.std.specs.Prelude.{◌≡◌, ◌+◌, ◌*◌, ◌%◌, ◌≤◌, ◌<◌, length};
+ghost use Rattle.std.specs.Prelude.{◌≡◌, ◌+◌, ◌*◌, ◌%◌, ◌≤◌, ◌<◌, length, replicate};
 ghost use Rattle.layout.specs.Sizes.{span_of, slots_of};
 ghost use Rattle.layout.specs.Bytes.{
   Sized,
@@ -13,6 +13,10 @@ ghost use Rattle.layout.specs.Bytes.{
   number8,
   bytes_at,
   zeros_at,
+  bytes2,
+  bytes4,
+  bytes8,
+  put,
 };
 
 // A ring as its header tells it.
@@ -154,4 +158,97 @@ pub fn take_bytes(bytes: &[u8], n: usize, p: usize, out: &mut [u8])
     }
     take_run(bytes, n, p, &mut out[0..left]);
     take_run(bytes, n, p + left, &mut out[left..count]);
+}
+
+// Stores src at place p of n slots; it doesn't go round the end.
+fn put_run(bytes: &mut [u8], n: usize, p: usize, src: &[u8])
+    requires sized { Sized bytes.old n }
+    requires src_bound { (p % span_of n) + length src.now ≤ span_of n }
+    ensures { bytes.new ≡ put bytes.old n p src.now }
+{
+    let span = n * Ring::SLOT;
+    let start = Ring::HEADER + around(p, span);
+    let mut i = 0;
+    while i < src.len() {
+        bytes[start + i] = src[i];
+        i += 1;
+    }
+}
+
+// Stores src at place p of n slots, round the end: up to the ring's end, and then the rest.
+pub fn put_bytes(bytes: &mut [u8], n: usize, p: usize, src: &[u8])
+    requires sized { Sized bytes.old n }
+    requires p_bound { (p ≤ span_of n + span_of n) × (length src.now ≤ span_of n) }
+    ensures { bytes.new ≡ put bytes.old n p src.now }
+{
+    let span = n * Ring::SLOT;
+    let left = span - around(p, span);
+    let count = src.len();
+    if count <= left {
+        put_run(bytes, n, p, src);
+        return;
+    }
+    put_run(bytes, n, p, &src[0..left]);
+    put_run(bytes, n, p + left, &src[left..count]);
+}
+
+// Stores count zeros at place p of n slots; they don't go round the end.
+fn put_zero_run(bytes: &mut [u8], n: usize, p: usize, count: usize)
+    requires sized { Sized bytes.old n }
+    requires count_bound { (p % span_of n) + count ≤ span_of n }
+    ensures { bytes.new ≡ put bytes.old n p (replicate count 0) }
+{
+    let span = n * Ring::SLOT;
+    let start = Ring::HEADER + around(p, span);
+    let mut i = 0;
+    while i < count {
+        bytes[start + i] = 0;
+        i += 1;
+    }
+}
+
+// Stores count zeros at place p of n slots, round the end.
+pub fn put_zeros(bytes: &mut [u8], n: usize, p: usize, count: usize)
+    requires sized { Sized bytes.old n }
+    requires p_bound { (p ≤ span_of n + span_of n) × (count ≤ span_of n) }
+    ensures { bytes.new ≡ put bytes.old n p (replicate count 0) }
+{
+    let span = n * Ring::SLOT;
+    let left = span - around(p, span);
+    if count <= left {
+        put_zero_run(bytes, n, p, count);
+        return;
+    }
+    put_zero_run(bytes, n, p, left);
+    put_zero_run(bytes, n, p + left, count - left);
+}
+
+// Stores a number as two bytes at place p of n slots, round the end: its lowest 16 bits.
+pub fn put_number2(bytes: &mut [u8], n: usize, p: usize, x: u64)
+    requires sized { Sized bytes.old n }
+    requires p_bound { p ≤ span_of n + span_of n }
+    ensures { bytes.new ≡ put bytes.old n p (bytes2 x) }
+{
+    let two = [(x % 256) as u8, (x / 256 % 256) as u8];
+    put_bytes(bytes, n, p, &two);
+}
+
+// The same as four bytes: its lowest 32 bits.
+pub fn put_number4(bytes: &mut [u8], n: usize, p: usize, x: u64)
+    requires sized { Sized bytes.old n }
+    requires p_bound { p + 2 ≤ span_of n + span_of n }
+    ensures { bytes.new ≡ put bytes.old n p (bytes4 x) }
+{
+    put_number2(bytes, n, p, x);
+    put_number2(bytes, n, p + 2, x / 65536);
+}
+
+// The same as eight bytes.
+pub fn put_number8(bytes: &mut [u8], n: usize, p: usize, x: u64)
+    requires sized { Sized bytes.old n }
+    requires p_bound { p + 6 ≤ span_of n + span_of n }
+    ensures { bytes.new ≡ put bytes.old n p (bytes8 x) }
+{
+    put_number4(bytes, n, p, x);
+    put_number4(bytes, n, p + 4, x / 4294967296);
 }

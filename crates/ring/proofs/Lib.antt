@@ -2,6 +2,4 @@ mod Making
 mod Free
 mod Storing
 mod Moving
-pub mod Cutting
 pub mod Laws
-pub mod Several

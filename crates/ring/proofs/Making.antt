@@ -12,7 +12,7 @@ use Rattle.walk.proofs.Rules.{IsHeader, Headed, header_headed}
 use Rattle.walk.proofs.Chain.{done}
 use Rattle.walk.proofs.Readings.{Readable}
 use Rattle.store.specs.Store.{slots_for, empty_header, made}
-use Rattle.store.proofs.Making.{made_yes}
+use Rattle.store.proofs.Fronts.{made_yes}
 use Rattle.ring.specs.Ring.{empty_ring}
 
 module _ (r : List ℕ) (z : Sized r (slots_for (length r))) where

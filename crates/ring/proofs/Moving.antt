@@ -5,7 +5,7 @@ use mathlib.Core.Logic.{◌≢◌}
 use mathlib.Core.List.{List, ◌++◌, map}
 use native.Mathlib.Omega.{arith}
 use native.Mathlib.Nat.{mod-lt, mod-mod, mod-add-mod}
-use lib.ListN.{length, set, length-set}
+use lib.ListN.{length, length-set}
 use lib.Seq.{get_or-set_same, get_or-set_other}
 use Rattle.layout.specs.Sizes.{header_size, slot_size}
 use Rattle.layout.specs.Bytes.{flat, round}
@@ -19,7 +19,6 @@ use Rattle.walk.proofs.Walks.{Slots, walk_same}
 use Rattle.walk.proofs.Chain.{Chain, walk_of, chain_of, used_append, chain_cut, chain_from}
 use Rattle.walk.proofs.Readings.{Readable, used_slots, headed_by, tail_at, writes_same}
 use Rattle.store.specs.Store.{head_moved}
-use Rattle.store.proofs.Steps.{moved_is}
 use Rattle.ring.specs.Ring.{shrunk}
 
 module _ (r : List ℕ) (g : Ring) (xs ks : List Entry) (k : Readable r g (xs ++ ks)) where
@@ -39,20 +38,21 @@ module _ (r : List ℕ) (g : Ring) (xs ks : List Entry) (k : Readable r g (xs ++
   fewer : u ≤ g.used
   fewer = omega (arith, used_slots k, used_append xs ks)
 
-  next_is : next ≡ set r 2 ((g.head + u) % n)
-  next_is = moved_is r ((g.head + u) % n)
-
   next_length : length next ≡ length r
-  next_length = ap length next_is ∙ length-set r 2 ((g.head + u) % n)
+  unfolding head_moved
+  next_length = length-set r 2 ((g.head + u) % n)
 
   next_header : (j : ℕ) → j < header_size → j ≢ 2 → flat next j ≡ flat r j
-  next_header j l d = ap (λ (x : List ℕ). flat x j) next_is ∙ get_or-set_other r 2 j ((g.head + u) % n) 0 d
+  unfolding head_moved
+  next_header j l d = get_or-set_other r 2 j ((g.head + u) % n) 0 d
 
   next_head : flat next 2 ≡ (g.head + u) % n
-  next_head = ap (λ (x : List ℕ). flat x 2) next_is ∙ get_or-set_same r 2 ((g.head + u) % n) 0 (omega (arith, k.headed.sized.len))
+  unfolding head_moved
+  next_head = get_or-set_same r 2 ((g.head + u) % n) 0 (omega (arith, k.headed.sized.len))
 
   next_round : (q : ℕ) → round next n q ≡ round r n q
-  next_round q = ap (λ (x : List ℕ). round x n q) next_is ∙ set_header r n 2 ((g.head + u) % n) q (omega arith)
+  unfolding head_moved
+  next_round q = set_header r n 2 ((g.head + u) % n) q (omega arith)
 
   -- the tail, counted from the old head and from the new one
   next_tail : flat next 3 ≡ ((g.head + u) % n + (g.used - u)) % n

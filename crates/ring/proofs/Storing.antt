@@ -21,11 +21,9 @@ use Rattle.walk.proofs.Rules.{Headed, Valid, valid_sound, head_same}
 use Rattle.walk.proofs.Walks.{Slots, walk_same}
 use Rattle.walk.proofs.Chain.{Chain, done, link, walk_of, chain_of, chain_join}
 use Rattle.walk.proofs.Readings.{Readable, headed_by, writes_same}
-use Rattle.image.specs.Image.{name_bytes, range_bytes, head_bytes, entry_bytes}
-use Rattle.store.specs.Store.{tail_after, stored}
-use Rattle.image.proofs.Stored.{head_length, entry_length}
-use Rattle.store.proofs.Steps.{stored_is}
-use Rattle.ring.specs.Ring.{Storable, grown, tail_of}
+use Rattle.store.specs.Store.{name_bytes, range_bytes, head_bytes, entry_bytes, tail_after, stored}
+use Rattle.store.proofs.Stored.{head_length, entry_length}
+use Rattle.ring.specs.Ring.{Storable, grown}
 
 -- ---- an entry's bytes, read back from wherever they stand
 
@@ -86,14 +84,6 @@ module _ (e : Entry) (bs : List ℕ) (l : e.length ≡ length bs) (v : Valid e) 
         rw l
         (bytes_are g bs (s * slot_size + head_size) (same_then (same_part k head_size (length bs) (omega arith)) (rw (zero-add head_size) enc_data)))
 
--- ---- the slot at the tail, turned round and counted on from the head
-
-pub at_tail : (r : List ℕ) (g : Ring) (xs : List ℕ) (slot : ℕ) → 0 < g.n → slot ≡ tail_of g → put r g.n (slot * slot_size) xs ≡ put r g.n ((g.head + g.used) * slot_size) xs
-at_tail r g xs slot some e =
-    let end = g.head + g.used in
-    put_place xs r g.n (slot * slot_size) (end * slot_size)
-    (ap (λ (x : ℕ). (x * slot_size) % span_of g.n) e ∙ slot_start g.n (end % g.n) some ∙ ap (λ (x : ℕ). x * slot_size) (mod-mod end g.n) ∙ sym (slot_start g.n end some))
-
 -- ---- the ring with the entry stored
 
 module _ (r : List ℕ) (g : Ring) (es : List Entry) (e : Entry) (bs : List ℕ) (k : Readable r g es) (w : Storable g es e bs) where
@@ -111,7 +101,11 @@ module _ (r : List ℕ) (g : Ring) (es : List Entry) (e : Entry) (bs : List ℕ)
 
   -- the bytes go in at the tail, counted on from the head
   next_by : next ≡ set (put r n (end * slot_size) (entry_bytes e bs)) 3 (tail_after n e)
-  next_by = stored_is r n e bs some_slots w.bytes ∙ ap (λ (x : List ℕ). set x 3 (tail_after n e)) (at_tail r g (entry_bytes e bs) e.slot some_slots w.slot)
+  unfolding stored
+  next_by =
+      ap (λ (x : List ℕ). set x 3 (tail_after n e))
+      (put_place (entry_bytes e bs) r n (e.slot * slot_size) (end * slot_size)
+      (ap (λ (x : ℕ). (x * slot_size) % span_of n) w.slot ∙ slot_start n (end % n) some_slots ∙ ap (λ (x : ℕ). x * slot_size) (mod-mod end n) ∙ sym (slot_start n end some_slots)))
 
   abbrev body : List ℕ
   body = put r n (end * slot_size) (entry_bytes e bs)

@@ -1,3 +1,1 @@
 pub mod Ring
-pub mod Parts
-pub mod Several

@@ -3,6 +3,4 @@ pub mod Flush
 pub mod Fill
 pub mod Refusals
 pub mod Outcome
-pub mod Steps
-pub mod Plans
 pub mod Known

@@ -1,3 +1,2 @@
-pub mod Making
-pub mod Steps
-pub mod Storing
+pub mod Fronts
+pub mod Stored

@@ -1,13 +1,11 @@
 -- What is stored in a ring: an empty header, an entry, a head byte. Document 01, "The ring in battery memory".
-use Rattle.std.specs.Prelude.{ℕ, zero, suc, ◌+◌, ◌-◌, ◌*◌, ◌/◌, ◌%◌, Bool, true, false, List, [], ◌∷◌, ◌++◌, length, get_or, replicate, take, drop, eqb}
+use Rattle.std.specs.Prelude.{ℕ, ◌+◌, ◌-◌, ◌*◌, ◌/◌, ◌%◌, Bool, true, false, List, ◌∷◌, ◌++◌, length, set, replicate, drop}
 use Rattle.reason.specs.declared.Reason.TheVariants.{BadBuffer}
-use Rattle.layout.specs.Sizes.{edition, header_size, slot_size, slots_of}
-use Rattle.layout.specs.Bytes.{flat, is_ring_length}
+use Rattle.layout.specs.Sizes.{edition, header_size, slot_size, slots_of, filler_of}
+use Rattle.layout.specs.Bytes.{is_ring_length, bytes2, bytes4, bytes8, put}
 use Rattle.walk.specs.declared.Entry.{Entry}
-use Rattle.image.specs.Image.{entry_bytes}
 use Rattle.store.specs.declared.Made.{Made}
 use Rattle.store.specs.declared.Made.TheVariants.{Ready, Refused}
-use Rattle.store.specs.Steps.{Step, in_slot, one_byte, run}
 
 -- ---- making an empty ring
 
@@ -39,43 +37,29 @@ made_answer r = pick_made (is_makeable (length r))
 
 -- ---- storing an entry
 
+-- the table of an entry's head: bytes 0 to 15, and 16 to 23
+unfoldable pub name_bytes : Entry → List ℕ
+name_bytes e = bytes8 e.number ++ (bytes4 e.node ++ bytes4 e.handle)
+
+unfoldable pub range_bytes : Entry → List ℕ
+range_bytes e = bytes4 e.offset ++ (bytes2 e.length ++ bytes2 e.zero)
+
+unfoldable pub head_bytes : Entry → List ℕ
+head_bytes e = name_bytes e ++ range_bytes e
+
+-- "the bytes, then zeros to the slot's end"
+unfoldable pub entry_bytes : Entry → List ℕ → List ℕ
+entry_bytes e bs = head_bytes e ++ (bs ++ replicate (filler_of e.length) 0)
+
 -- the tail slot after an entry
 abbrev pub tail_after : ℕ → Entry → ℕ
 tail_after n e = (e.slot + slots_of e.length) % n
 
--- bytes as the slots that they fill: m slots from slot s on, modulo N
-unfoldable pub slot_steps : ℕ → ℕ → ℕ → List ℕ → List Step
-slot_steps n s zero bs = []
-slot_steps n s (suc m) bs = in_slot (s % n) (take slot_size bs) ∷ slot_steps n (suc s) m (drop slot_size bs)
-
--- the header's byte 3
-abbrev pub tail_step : ℕ → Step
-tail_step v = one_byte 3 v
-
--- the entry first, one slot a step, and the tail byte last
-unfoldable pub store_steps : ℕ → Entry → List ℕ → List Step
-store_steps n e bs = slot_steps n e.slot (slots_of e.length) (entry_bytes e bs) ++ tail_step (tail_after n e) ∷ []
-
--- step i of them
-abbrev pub store_step : ℕ → Entry → List ℕ → ℕ → Step
-store_step n e bs i = get_or (store_steps n e bs) i (tail_step 0)
-
+-- the entry first and the tail byte last
 unfoldable pub stored : List ℕ → ℕ → Entry → List ℕ → List ℕ
-stored r n e bs = run r (store_steps n e bs)
+stored r n e bs = set (put r n (e.slot * slot_size) (entry_bytes e bs)) 3 (tail_after n e)
 
 -- ---- moving the head on
 
--- the header's byte 2
-abbrev pub head_step : ℕ → Step
-head_step v = one_byte 2 v
-
-abbrev pub unless_same : Bool → List Step → List Step
-unless_same true xs = []
-unless_same false xs = xs
-
--- one store of the head byte, and none where the head stays
-unfoldable pub head_steps : List ℕ → ℕ → List Step
-head_steps r slot = unless_same (eqb (flat r 2) slot) (head_step slot ∷ [])
-
 unfoldable pub head_moved : List ℕ → ℕ → List ℕ
-head_moved r slot = run r (head_steps r slot)
+head_moved r slot = set r 2 slot

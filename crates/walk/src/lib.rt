@@ -21,7 +21,6 @@ use layout::Ring;
 use reason::Reason;
 
 // An entry's head, and where it stands.
-#[repr(C)]
 #[derive(Drop)]
 pub struct Entry {
     pub number: u64,

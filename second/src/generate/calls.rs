@@ -34,16 +34,11 @@ impl Generator {
     }
 
     pub(super) fn write(&mut self) {
-        let length = self.length();
-        let line = self.write_of(length);
-        self.call(&line);
-    }
-
-    pub(super) fn write_of(&mut self, length: u64) -> String {
         let (node, handle) = (self.node(), self.random.below(4));
+        let length = self.length();
         let offset = self.offset(length);
         let bytes = self.bytes_word(length as usize);
-        format!("write {node} {handle} {offset} {bytes}")
+        self.call(&format!("write {node} {handle} {offset} {bytes}"));
     }
 
     pub(super) fn node(&mut self) -> u32 {
@@ -228,24 +223,18 @@ impl Generator {
             return self.flush();
         }
         let good = self.random.chance(65);
-        let line = self.report_of(number, good);
-        self.call(&line);
-    }
-
-    /// A sheet may be called good only when all of it has landed.
-    pub(super) fn report_of(&mut self, number: u64, good: bool) -> String {
-        if good && number == self.player.state.flush {
+        if good {
             self.checker.history.land(|_| true);
             self.check_shore();
         }
         let number = self.word(number);
-        format!("report {number} {}", if good { "good" } else { "bad" })
+        self.call(&format!("report {number} {}", if good { "good" } else { "bad" }));
     }
 
     /// Some bytes of the sheet that is out reach the shore, in no order.
     pub(super) fn land(&mut self) {
         let missing = self.checker.history.out.as_ref().map_or(0, |out| out.pending.len());
-        if missing == 0 || !self.checker.knows_the_ring() {
+        if missing == 0 || !self.is_followed() {
             return;
         }
         let cut = self.random.below(missing as u64) as usize;

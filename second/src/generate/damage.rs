@@ -203,7 +203,7 @@ impl Generator {
     /// New phases for all listed writes, which mostly fit: for each node Flushed ones, then In flight, then Unflushed.
     fn recast_state(&mut self) -> Vec<Damage> {
         if self.random.chance(30) {
-            self.many_small_writes(20);
+            self.many_small_writes();
         }
         let Some(reading) = ring::read(&self.player.ring) else { return vec![self.set_something()] };
         let nodes: Vec<u32> = reading.entries.iter().map(|entry| entry.node).collect();

@@ -4,7 +4,7 @@ use super::Generator;
 
 /// Lines that look like commands and are none, or hardly.
 #[rustfmt::skip]
-const NO_COMMANDS: [&[u8]; 64] = [
+const NO_COMMANDS: [&[u8]; 48] = [
     b"", b" ", b"     ", b"# a comment", b"#", b" # not a comment", b"wirte 1 2 3 4E", b"WRITE 1 2 3 4E",
     b"write 1 2 3", b"write 1 2 3 4E 5", b" write 1 2 3 4E", b"write 1 2 3 4E ", b"write  1 2 3 4E", b"write 1 2 3 4",
     b"write 1 2 3 4G", b"write 1 2 3 4E4", b"write 1 2 3 4Ex", b"write 1 2 3 4Ex140001", b"write 1 2 3 4EX5",
@@ -13,18 +13,14 @@ const NO_COMMANDS: [&[u8]; 64] = [
     b"unpin 18446744073709551616", b"ticket 1", b"turn 0", b"reopen now", b"make", b"make 140001", b"flush 1 140001",
     b"fill 1 1 0 2 0 000000", b"fill 1 1 0 140001 0 -", b"report 1", b"report 1 Good", b"sum", b"sum rings",
     b"state 1", b"show me", b"set pin 16 1 1 1", b"\xFF\x00\x80",
-    b"cut", b"cut 0 00", b"cut 0 write 1 2 3 4E", b"cut 00 write 1 2 3 4E", b"cut -1 00 unpin 1", b"cut 1 0 unpin 1",
-    b"cut 1 000 unpin 1", b"cut 1 0G unpin 1", b"cut 18446744073709551616 00 unpin 1", b"cut 1 00  unpin 1",
-    b"cut 1 00 cut 1 00 write 1 2 3 4E", b"cut 1 00 reopen", b"cut 1 00 pin 1", b"cut 1 00 flush 1 100",
-    b"cut 1 00 report 1", b"cut 1 00 write 1 2 3",
 ];
 
 /// The same, for those that would change a ring or state if they went through.
 #[rustfmt::skip]
-const MORE_NO_COMMANDS: [&[u8]; 15] = [
+const MORE_NO_COMMANDS: [&[u8]; 12] = [
     b"set number 254 1", b"set phase 0 256", b"set phase 254 0", b"set pin 0 1 1", b"set pin 0 1 1 4294967296",
     b"set next", b"set mark 0 1", b"poke 65296 00", b"poke 18446744073709551615 00", b"poke 0 1", b"poke 0 001",
-    b"set next 18446744073709551616", b"cut 0 00 make 4624", b"cut 0 00 poke 0 00", b"cut 0 00 set next 1",
+    b"set next 18446744073709551616",
 ];
 
 impl Generator {
@@ -63,7 +59,7 @@ impl Generator {
     pub(super) fn look_after(&mut self, call: &str) {
         let name = call.split(' ').next().unwrap_or("");
         match name {
-            "make" | "reopen" | "write" | "unpin" | "report" | "cut" => {
+            "make" | "reopen" | "write" | "unpin" | "report" => {
                 self.look("sum ring", 70);
                 self.look("state", 60);
             }

@@ -2,7 +2,6 @@
 //! shore, so that its fills bring bytes that were really fetched.
 
 mod calls;
-mod cuts;
 mod damage;
 mod looks;
 mod nonsense;

@@ -5,15 +5,20 @@ use crate::ring::{FILE_LIMIT, NUMBER_LIMIT};
 
 impl Generator {
     pub(super) fn nonsense(&mut self) {
-        let line = match self.random.below(9) {
+        match self.random.below(9) {
             0..3 => self.odd_write(),
             3..5 => self.odd_fill(),
             5 => self.odd_flush(),
-            6 => self.odd_report(),
-            7 => self.odd_unpin(),
+            6 => {
+                let (number, verdict) = (self.odd_number(), self.random.pick(&["good", "bad"]));
+                self.odd_report(number, verdict);
+            }
+            7 => {
+                let number = self.odd_number();
+                self.call(&format!("unpin {number}"));
+            }
             _ => self.odd_question(),
-        };
-        self.call(&line);
+        }
     }
 
     fn odd_node(&mut self) -> u32 {
@@ -37,14 +42,14 @@ impl Generator {
         if self.random.chance(50) { self.random.pick(&odd) } else { self.random.below(self.plan.span) }
     }
 
-    pub(super) fn odd_write(&mut self) -> String {
+    fn odd_write(&mut self) {
         let (node, offset) = (self.odd_node(), self.odd_offset());
         let length = self.random.pick(&[0, 1, 1, 2, 4096, 4097, 5000]);
         let bytes = if length == 0 && self.random.chance(50) { "-".into() } else { format!("5ax{length}") };
-        format!("write {node} 9 {offset} {bytes}")
+        self.call(&format!("write {node} 9 {offset} {bytes}"));
     }
 
-    fn odd_fill(&mut self) -> String {
+    fn odd_fill(&mut self) {
         let pins = self.live_pins();
         let (pin, node) = match self.random.below(3) {
             0 if !pins.is_empty() => {
@@ -58,38 +63,36 @@ impl Generator {
         let length = self.random.pick(&[0, 1, 8, 65_536, 65_537, 140_000]);
         let fetched = self.random.pick(&[0, 0, 1, length, length + 1, u64::MAX]);
         let bytes = format!("77x{}", fetched.min(length));
-        format!("fill {pin} {node} {offset} {length} {fetched} {bytes}")
+        self.call(&format!("fill {pin} {node} {offset} {length} {fetched} {bytes}"));
     }
 
-    fn odd_flush(&mut self) -> String {
+    fn odd_flush(&mut self) {
         let node = self.odd_node();
         let length = self.random.pick(&[0, 1, 8, 16, 17, 24, 140_000]);
-        format!("flush {node} {length}")
+        self.call(&format!("flush {node} {length}"));
     }
 
-    /// A report that should be refused, unless the number happens to be the flush.
-    pub(super) fn odd_report(&mut self) -> String {
-        let (number, good) = (self.odd_number(), self.random.chance(50));
-        self.report_of(number, good)
+    /// A report that should be refused, unless the number happens to be the flush: then all must have landed.
+    fn odd_report(&mut self, number: u64, verdict: &str) {
+        if number == self.player.state.flush && verdict == "good" {
+            self.checker.history.land(|_| true);
+        }
+        self.call(&format!("report {number} {verdict}"));
     }
 
-    pub(super) fn odd_unpin(&mut self) -> String {
-        format!("unpin {}", self.odd_number())
-    }
-
-    fn odd_question(&mut self) -> String {
+    fn odd_question(&mut self) {
         let (number, node) = (self.odd_number(), self.odd_node());
-        if self.random.chance(50) { format!("end {node}") } else { format!("ask {number} {node}") }
+        let text = if self.random.chance(50) { format!("end {node}") } else { format!("ask {number} {node}") };
+        self.call(&text);
     }
 
     /// What a history needs once or twice: more pins than there can be, a far next number, another ring.
     pub(super) fn rarely(&mut self) {
-        match self.random.below(8) {
+        match self.random.below(6) {
             0 | 1 => self.many_pins(),
             2 => self.numbers_run_out(),
-            3 | 4 => self.full_batch(),
-            5 => self.long_run(),
-            6 => {
+            3 => self.many_small_writes(),
+            4 => {
                 let length = self.random.pick(&[0, 15, 16, 4368, 4623, 4625, 65_295, 65_297, 65_552, 140_000]);
                 if self.random.chance(30) {
                     self.call(&format!("make {length}"));
@@ -118,36 +121,8 @@ impl Generator {
         }
     }
 
-    /// Often more writes than a batch takes, now and then on a new ring that has room for them.
-    fn full_batch(&mut self) {
-        if self.plan.slots < 64 && self.random.chance(30) {
-            self.plan.slots = self.random.between(64, 255);
-            self.make();
-        }
-        self.many_small_writes(33);
-        self.flush_first_node();
-    }
-
-    /// Two writes that touch, longer together than a piece. An empty ring has room for them, however small.
-    fn long_run(&mut self) {
-        self.drain();
-        let (node, offset, more) = (self.plan.nodes[0], self.random.below(90), self.random.between(25, 232));
-        self.call(&format!("write {node} 2 {offset} 6ax4072"));
-        self.call(&format!("write {node} 2 {} 6bx{more}", offset + 4072));
-        self.flush_first_node();
-    }
-
-    fn flush_first_node(&mut self) {
-        if self.player.state.flush != 0 {
-            self.report();
-        }
-        let node = self.plan.nodes[0];
-        let length = self.flush_length(node);
-        self.call(&format!("flush {node} {length}"));
-    }
-
-    pub(super) fn many_small_writes(&mut self, least: u64) {
-        for _ in 0..self.random.between(least, 60) {
+    pub(super) fn many_small_writes(&mut self) {
+        for _ in 0..self.random.between(20, 60) {
             let (node, offset) = (self.plan.nodes[0], self.random.below(90));
             let bytes = self.bytes_word(1);
             self.call(&format!("write {node} 1 {offset} {bytes}"));

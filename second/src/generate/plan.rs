@@ -6,7 +6,7 @@ use crate::random::Random;
 type Choice = fn(&mut Generator);
 
 /// Every choice with its usual weight.
-const CHOICES: [(u64, Choice); 21] = [
+const CHOICES: [(u64, Choice); 20] = [
     (30, Generator::write),
     (8, Generator::pin),
     (12, Generator::unpin),
@@ -26,7 +26,6 @@ const CHOICES: [(u64, Choice); 21] = [
     (4, Generator::drain),
     (1, Generator::churn),
     (2, Generator::read_across_a_flush),
-    (4, Generator::cut),
     (1, Generator::rarely),
 ];
 

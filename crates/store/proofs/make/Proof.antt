@@ -7,7 +7,7 @@ use lib.ListN.{length, drop}
 use borrow.Author.Rules.{rules}
 use Rattle.layout.specs.Bytes.{Sized}
 use Rattle.store.specs.Store.{slots_for}
-use Rattle.store.proofs.Making.{made_no, made_yes}
+use Rattle.store.proofs.Fronts.{made_no, made_yes}
 use Rattle.store.proofs.make.Statement.{statement}
 use Rattle.store.proofs.make.Tie as tie
 
