@@ -1,6 +1,7 @@
 // The calls for a host in C: each takes its arguments apart, hands them on, and flattens the answer to numbers. Nothing is decided here.
 // The state goes in and comes out by value, as the plain struct of `include/vibetorch.h`. A ring or a buffer is a pointer and a length.
 // Document 01, "What the box's cache does".
+#![tactic(auto)]
 ghost use Rattle.std.specs.Prelude.{◌≡◌};
 ghost use Rattle.rules.specs.Call.{make_ring, reopen_ring, write, pin, unpin, ask_end, report, take_ticket, ask_ticket, ask_turn, start_flush, fill_read};
 ghost use Rattle.rules.specs.Outcome.{outcome, refuses};
@@ -19,7 +20,7 @@ use state::State;
 
 // The refusal's number, 0 for none; the value, 0 for none; the length of a flush sheet, 0 for none.
 #[repr(C)]
-#[derive(Drop)]
+#[derive(Clone, Copy)]
 pub struct Answer {
     pub refusal: u32,
     pub value: u64,
@@ -27,7 +28,7 @@ pub struct Answer {
 }
 
 #[repr(C)]
-#[derive(Drop)]
+#[derive(Clone, Copy)]
 pub struct Changed {
     pub state: State,
     pub answer: Answer,

@@ -1,6 +1,7 @@
 // The public calls but the two with a lent buffer. Document 01, "What the box's cache does", "Moves" and "When the box says no".
 // Each takes the ring's bytes and the state, whatever they are, and answers; its promise is one equation with `outcome`, which settles what is
 // said, the state and every byte. Each judges ring and state by one walk.
+#![tactic(auto)]
 ghost use Rattle.std.specs.Prelude.{◌≡◌};
 ghost use Rattle.rules.specs.Call.{make_ring, reopen_ring, write, pin, unpin, ask_end, report, take_ticket, ask_ticket, ask_turn};
 ghost use Rattle.rules.specs.Outcome.{outcome, outcome_by};
@@ -15,13 +16,13 @@ use state::{PINS, Pin, State};
 use store::Made;
 use walk::Opened;
 
-#[derive(Drop)]
+#[derive(Clone, Copy)]
 pub enum Ended {
     End(u64),
     Refused(Reason),
 }
 
-#[derive(Drop)]
+#[derive(Clone, Copy)]
 pub enum Asked {
     Done,
     NotYet,
@@ -29,7 +30,7 @@ pub enum Asked {
 }
 
 // The node whose turn it is, or 0.
-#[derive(Drop)]
+#[derive(Clone, Copy)]
 pub enum Turn {
     Node(u32),
     Refused(Reason),

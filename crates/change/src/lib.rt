@@ -1,6 +1,7 @@
 // What stands behind write, unpin and report, on a ring and a state that passed the judge. Document 01, "Moves" and "When the box says no".
 // Only our own crates call it: the callers show that the judge has let the call pass. Each promise is the call's own equation with `outcome`.
 // A write copies its slots once, the others store one byte; nothing here walks the ring. Two of the answers, with the state beside them, stand here too.
+#![tactic(auto)]
 ghost use Rattle.std.specs.Prelude.{◌≡◌, ◌∷◌, [], ◌++◌, map, true, ◌+◌, ◌≤◌, ◌<◌, take};
 ghost use Rattle.layout.specs.Sizes.{most_entries, number_limit};
 ghost use Rattle.layout.specs.Bytes.{Sized};
@@ -21,33 +22,33 @@ use state::{BAD, GOOD, Held, PINS, Pin, State, UNFLUSHED};
 use walk::Entry;
 
 // A number: of a write, a pin or a ticket, or the next after reopening.
-#[derive(Drop)]
+#[derive(Clone, Copy)]
 pub enum Numbered {
     Number(u64),
     Refused(Reason),
 }
 
-#[derive(Drop)]
+#[derive(Clone, Copy)]
 pub enum Ack {
     Done,
     Refused(Reason),
 }
 
 // Whether a call goes on behind its own refusals.
-#[derive(Drop)]
+#[derive(Clone, Copy)]
 enum May {
     Go,
     Refused(Reason),
 }
 
 // An answer beside the state, since an enum can't hold the state's arrays.
-#[derive(Drop)]
+#[derive(Clone, Copy)]
 pub struct NumberedOut {
     pub state: State,
     pub answer: Numbered,
 }
 
-#[derive(Drop)]
+#[derive(Clone, Copy)]
 pub struct AckOut {
     pub state: State,
     pub answer: Ack,

@@ -1,6 +1,7 @@
 // Filling a read. Document 01, "Moves", paragraph "Fill"; refusals 8, 12, 1, 3, 9 and 11 of "When the box says no".
 // Costs one walk for the judge; then for each block of bytes before r one pass over the held writes, and for each byte a search over those that
 // touch its block, newest first.
+#![tactic(auto)]
 ghost use Rattle.std.specs.Prelude.{◌≡◌, [], ◌+◌, ◌≤◌, ◌<◌, length, take, replicate, ltb};
 ghost use Rattle.layout.specs.Sizes.{most_entries, file_end};
 ghost use Rattle.layout.specs.Bytes.{both, Sized};
@@ -20,14 +21,14 @@ use reason::Reason;
 use state::{Held, PINS, Pin, State};
 
 // The count of bytes that the host may show.
-#[derive(Drop)]
+#[derive(Clone, Copy)]
 pub enum Filled {
     Count(usize),
     Refused(Reason),
 }
 
 // Whether a fill goes on behind its own refusals.
-#[derive(Drop)]
+#[derive(Clone, Copy)]
 enum May {
     Go,
     Refused(Reason),

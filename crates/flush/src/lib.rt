@@ -1,5 +1,6 @@
 // Starting a flush. Document 01, "Moves", paragraphs "Flush" and "Sheet"; refusals 8, 12, 1, 6, 5 and 11 of "When the box says no".
 // Costs one walk for the judge, one pass over the held writes for the batch, the sheet, and one pass to list the writes.
+#![tactic(auto)]
 ghost use Rattle.std.specs.Prelude.{◌≡◌, ◌+◌, ◌≤◌, ◌<◌, length, take, replicate, ltb};
 ghost use Rattle.layout.specs.Sizes.{most_entries, number_limit};
 ghost use Rattle.layout.specs.Bytes.{both};
@@ -19,13 +20,13 @@ use state::{Held, State, TAKEN, UNFLUSHED};
 use walk::Entry;
 
 // A flush that was started: its number, and the length of the sheet that stands in the buffer's front.
-#[derive(Drop)]
+#[derive(Clone, Copy)]
 pub struct Started {
     pub number: u64,
     pub length: usize,
 }
 
-#[derive(Drop)]
+#[derive(Clone, Copy)]
 pub enum Flush {
     Begun(Started),
     Nothing,
@@ -33,14 +34,14 @@ pub enum Flush {
 }
 
 // An answer beside the state, since an enum can't hold the state's arrays.
-#[derive(Drop)]
+#[derive(Clone, Copy)]
 pub struct FlushOut {
     pub state: State,
     pub answer: Flush,
 }
 
 // A node's batch: its entries, oldest first, and all held writes with the batch In flight.
-#[derive(Drop)]
+#[derive(Clone, Copy)]
 struct Batch {
     count: usize,
     entries: [Entry; BATCH],

@@ -1,5 +1,6 @@
 // The judge of a ring and a state: whether the ring is readable (8) and the state fits it (12), from one walk.
 // Document 01, "When the box says no", last paragraph. Nothing here stores a byte.
+#![tactic(auto)]
 ghost use Rattle.std.specs.Prelude.{◌≡◌, true, false, not, ◌≤◌, ◌<◌, take, replicate, eqb};
 ghost use Rattle.layout.specs.Sizes.{most_entries};
 ghost use Rattle.layout.specs.Bytes.{both};
@@ -14,14 +15,14 @@ use state::{FLUSHED, GONE, Held, IN_FLIGHT, Listed, PINS, Pin, State, UNFLUSHED}
 use walk::{Entry, Opened, Walked};
 
 // The judge's word on a ring and a state; the refusals are Unreadable and StateUnfit.
-#[derive(Drop)]
+#[derive(Clone, Copy)]
 pub enum Verdict {
     Fits(Ring),
     Refused(Reason),
 }
 
 // The verdict, with the held writes beside it: count of them, oldest first, and zeros behind them.
-#[derive(Drop)]
+#[derive(Clone, Copy)]
 pub struct Judged {
     pub verdict: Verdict,
     pub count: usize,
@@ -29,7 +30,7 @@ pub struct Judged {
 }
 
 // What the pass over the ring's entries and the listed writes tells beside the held writes.
-#[derive(Drop)]
+#[derive(Clone, Copy)]
 struct Seen {
     // Whether the listed writes are the ring's entries, in order.
     matched: bool,

@@ -2,6 +2,8 @@
 // zeros, and copies round the ring's end in two moves.
 // Document 01, "The ring in battery memory". Every function here is one pass over the bytes it is
 // told of, and only our own crates call it: the callers show what it requires.
+#![tactic(auto)]
+
 ghost use Rattle.std.specs.Prelude.{◌≡◌, ◌+◌, ◌*◌, ◌%◌, ◌≤◌, ◌<◌, length, replicate};
 ghost use Rattle.layout.specs.Sizes.{span_of, slots_of};
 ghost use Rattle.layout.specs.Bytes.{
@@ -20,7 +22,7 @@ ghost use Rattle.layout.specs.Bytes.{
 };
 
 // A ring as its header tells it.
-#[derive(Drop)]
+#[derive(Clone, Copy)]
 pub struct Ring {
     // N, how many slots there are.
     pub n: usize,

@@ -1,9 +1,11 @@
 // The reasons for which the box says no, one for each row of document 01's table
 // "When the box says no". Each reason is named by what is wrong; `number_of` states its number.
+#![tactic(auto)]
+
 ghost use Rattle.std.specs.Prelude.{◌≡◌};
 ghost use Rattle.reason.specs.Reason.{number_of};
 
-#[derive(Drop)]
+#[derive(Clone, Copy)]
 pub enum Reason {
     // The node is 0.
     NodeZero,

@@ -1,3 +1,4 @@
 // The laws of the ring: what is stored is read back, and nothing else moves.
 // Document 01, "The ring in battery memory". There is no code here: `proofs/Laws.antt` is the one
 // file that the layers above cite for the ring's bytes, whatever the layers below do to keep it.
+#![tactic(auto)]

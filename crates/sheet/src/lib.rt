@@ -1,5 +1,6 @@
 // The flush sheet: which pieces a batch has, and their bytes in a lent buffer. Document 01, "Moves", paragraph "Sheet".
 // There is no sort and no heap: a walk over the places where the newest write can change finds the pieces; the writes are then painted into them, oldest first.
+#![tactic(auto)]
 ghost use Rattle.std.specs.Prelude.{◌≡◌, ◌++◌, map, ◌+◌, ◌-◌, ◌*◌, ◌≤◌, ◌<◌, min, max, length, take, drop, replicate};
 ghost use Rattle.layout.specs.Sizes.{file_end, largest};
 ghost use Rattle.walk.specs.Entry.{data_of};
@@ -20,14 +21,14 @@ pub const BATCH: usize = 32;
 pub const PIECE: usize = 4096;
 
 // Bytes from a start on, all of one key.
-#[derive(Drop)]
+#[derive(Clone, Copy)]
 pub struct Piece {
     pub start: usize,
     pub size: usize,
     pub key: usize,
 }
 
-#[derive(Drop)]
+#[derive(Clone, Copy)]
 pub struct Pieces {
     pub count: usize,
     // The bytes of all of them.
@@ -36,14 +37,14 @@ pub struct Pieces {
 }
 
 // The newest write that covers a place, counted from 1, or 0; and a place up to which that stays so.
-#[derive(Drop)]
+#[derive(Clone, Copy)]
 pub struct Found {
     pub newest: usize,
     pub until: usize,
 }
 
 // Where a piece starts, its key, and a place up to which the key stays so.
-#[derive(Drop)]
+#[derive(Clone, Copy)]
 struct Start {
     place: usize,
     key: usize,
@@ -365,7 +366,7 @@ fn put_sheet(
 }
 
 // A sheet of so many bytes, or a buffer too short for it.
-#[derive(Drop)]
+#[derive(Clone, Copy)]
 pub enum Made {
     Sheet(usize),
     Short,

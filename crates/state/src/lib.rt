@@ -1,5 +1,6 @@
 // The state that goes in and out of every call, by value, and what is worked out from it and the ring's entries: moves, marks, letting
 // go, and what is asked. Document 01, "Moves". Nothing here reads or stores a byte of the ring.
+#![tactic(auto)]
 ghost use Rattle.std.specs.Prelude.{◌≡◌, true, false, [], map, ◌++◌, ◌+◌, ◌-◌, ◌≤◌, ◌<◌, length, take, drop, replicate};
 ghost use Rattle.layout.specs.Sizes.{most_entries, number_limit};
 ghost use Rattle.walk.specs.Walk.{slots_used, last_of, Rising};
@@ -61,7 +62,7 @@ pub const PINS: usize = 16;
 
 // A write as the state lists it.
 #[repr(C)]
-#[derive(Drop)]
+#[derive(Clone, Copy)]
 pub struct Listed {
     pub number: u64,
     // One of the four states.
@@ -70,7 +71,7 @@ pub struct Listed {
 
 // A pin; number 0 is a free record.
 #[repr(C)]
-#[derive(Drop)]
+#[derive(Clone, Copy)]
 pub struct Pin {
     pub number: u64,
     pub mark: u64,
@@ -79,7 +80,7 @@ pub struct Pin {
 }
 
 #[repr(C)]
-#[derive(Drop)]
+#[derive(Clone, Copy)]
 pub struct State {
     // The next number that a write, a pin, a flush start or a ticket takes.
     pub next: u64,
@@ -92,14 +93,14 @@ pub struct State {
 }
 
 // A write that is held: its entry in the ring beside its state of the four.
-#[derive(Drop)]
+#[derive(Clone, Copy)]
 pub struct Held {
     pub entry: Entry,
     pub phase: u8,
 }
 
 // What a search looks for.
-#[derive(Drop)]
+#[derive(Clone, Copy)]
 pub struct Query {
     // In reach of this node; 0 is all.
     pub node: u32,
@@ -109,7 +110,7 @@ pub struct Query {
 }
 
 // Those that leave from the head, and the slots that they take.
-#[derive(Drop)]
+#[derive(Clone, Copy)]
 pub struct Leaving {
     pub count: usize,
     pub slots: usize,

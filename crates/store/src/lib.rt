@@ -1,6 +1,7 @@
 // Storing in a ring: an empty header, an entry with its bytes, the head byte.
 // Document 01, "The ring in battery memory". An entry is stored before the tail byte that shows it.
 // Each function is one pass over the bytes that it stores.
+#![tactic(auto)]
 ghost use Rattle.std.specs.Prelude.{◌≡◌, ◌++◌, ◌+◌, ◌%◌, ◌≤◌, ◌<◌, length, drop};
 ghost use Rattle.layout.specs.Sizes.{header_size, most_slots, largest, span_of};
 ghost use Rattle.layout.specs.Bytes.{Sized, put};
@@ -20,7 +21,7 @@ use reason::Reason;
 use walk::Entry;
 
 // The answer of making a ring; the only refusal is BadBuffer.
-#[derive(Drop)]
+#[derive(Clone, Copy)]
 pub enum Made {
     Ready,
     Refused(Reason),

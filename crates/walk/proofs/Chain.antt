@@ -128,7 +128,7 @@ chain_cut {f} {n} {s} {left} {last} (e ∷ es) ks (link at is c) =
     let u = slots_of e.length in
     let x : s + u + slots_used es ≡ s + (u + slots_used es) = omega arith in
     let y : left - u - slots_used es ≡ left - (u + slots_used es) = omega arith in
-    rw (x, y) at (chain_cut es ks c)
+    rw (x, y) at (chain_cut {s = s + u} es ks c)
 
 -- a chain rises from any lower number
 pub chain_from : {f : ℕ → ℕ} {n s left last : ℕ} {es : List Entry} (low : ℕ) → low ≤ last → Chain f n s left last es → Chain f n s left low es

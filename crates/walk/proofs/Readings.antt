@@ -128,10 +128,10 @@ data_at : (r : List ℕ) (n s length : ℕ) → 0 < n → Same (round r n) (s * 
 data_at r n s length z = same_part (slot_round r n s (head_size + length) z) head_size length (omega arith)
 
 -- the same slots hold the same writes
-pub writes_same : {s left last : ℕ} {es : List Entry} (r r' : List ℕ) (n : ℕ) → 0 < n → Chain (round r n) n s left last es
+pub writes_same : (r r' : List ℕ) (n : ℕ) → 0 < n → {s left last : ℕ} {es : List Entry} → Chain (round r n) n s left last es
     → Slots n (round r n) s (round r' n) s left → map (write_of (round r n)) es ≡ map (write_of (round r' n)) es
 writes_same r r' n z done k = refl
-writes_same {s} {left} {last} r r' n z (link {e = e} at is c) k =
+writes_same r r' n z {s} {left} {last} (link {e = e} at is c) k =
     let u = slots_of e.length in
     let d : s % n ≡ e.slot = ap (λ (x : Entry). x.slot) at in
     let x = data_at r n s e.length z in

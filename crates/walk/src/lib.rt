@@ -1,6 +1,8 @@
 // Reading a ring: its header, its entries, and the walk from head to tail that reopening makes.
 // Document 01, "The ring in battery memory". Nothing here stores a byte.
 // A walk looks at each entry's head and filler once; an entry's bytes are read where they are wanted.
+#![tactic(auto)]
+
 ghost use Rattle.std.specs.Prelude.{◌≡◌, ◌+◌, ◌≤◌, ◌<◌, length, get_or, take, drop, replicate};
 ghost use Rattle.layout.specs.Sizes.{most_slots, most_entries, head_size, largest};
 ghost use Rattle.layout.specs.Bytes.{Sized, flat, round};
@@ -21,7 +23,7 @@ use layout::Ring;
 use reason::Reason;
 
 // An entry's head, and where it stands.
-#[derive(Drop)]
+#[derive(Clone, Copy)]
 pub struct Entry {
     pub number: u64,
     pub node: u32,
@@ -37,7 +39,7 @@ pub struct Entry {
 }
 
 // A place of the walk.
-#[derive(Drop)]
+#[derive(Clone, Copy)]
 pub struct Cursor {
     // The slot, counted on from head and not turned round at N.
     pub place: usize,
@@ -48,27 +50,27 @@ pub struct Cursor {
 }
 
 // What a step of the walk yields.
-#[derive(Drop)]
+#[derive(Clone, Copy)]
 pub enum Step {
     Found(Entry),
     Nothing,
 }
 
-#[derive(Drop)]
+#[derive(Clone, Copy)]
 pub enum Header {
     Good(Ring),
     Bad,
 }
 
 // Whether the bytes are a ring; the only refusal is Unreadable.
-#[derive(Drop)]
+#[derive(Clone, Copy)]
 pub enum Opened {
     Readable(Ring),
     Refused(Reason),
 }
 
 // The walk's answer, with the entries beside it: count of them, oldest first, and zeros behind them.
-#[derive(Drop)]
+#[derive(Clone, Copy)]
 pub struct Walked {
     pub opened: Opened,
     pub count: usize,

@@ -1,0 +1,24 @@
+-- `walk::collect` meets its contract. The invariant `Collecting`: the entries passed stand in the array, and the rest of the walk is still to come.
+-- The slots left fall with each entry, which takes one at least.
+use mathlib.Core.Path.{sym, ◌∙◌}
+use native.Mathlib.Omega.{arith}
+use Rattle.walk.proofs.Collecting.{collect_start, collect_end, collect_none, collect_fits, collect_step}
+use Rattle.walk.proofs.collect.Goals as goal
+
+pub loop-left-init : goal.loop-left-init
+loop-left-init c = rw c.no_entries-entries.ensures (collect_start _ _)
+
+pub returns-in_default : goal.returns-in_default
+returns-in_default c = let l = c.loop-left in
+    c.refused.ensures ∙ collect_none _ _ _ _ _ _ _ l.invariant c.loop-left-test.true (sym c.step_at-step.ensures ∙ c.in_default.is)
+
+pub overflow_sub-left : goal.overflow_sub-left
+overflow_sub-left c = let l = c.loop-left in
+    omega (arith, c.slots-slots.ensures, collect_fits _ _ _ _ _ _ _ l.invariant c.loop-left-test.true c.in-Found.entry (sym c.step_at-step.ensures ∙ c.in-Found.is))
+
+pub loop-left-preserved : goal.loop-left-preserved
+loop-left-preserved c = let l = c.loop-left in
+    rw c.slots-slots.ensures (collect_step _ _ _ _ _ _ _ l.invariant c.loop-left-test.true c.in-Found.entry (sym c.step_at-step.ensures ∙ c.in-Found.is) (omega arith))
+
+pub returns : goal.returns
+returns c = collect_end _ _ _ _ _ _ _ c.loop-left.invariant (omega arith)
