@@ -1,7 +1,7 @@
 -- What owning a State tells: how long its arrays are.
 use mathlib.Core.Path.{◌≡◌}
 use mathlib.Core.List.{[], ◌∷◌}
-use lib.ListN.{length, length-map}
+use lib.ListN.{length}
 use denote.Shadow.{shadow}
 use denote.RattleType.{Valss}
 use denote.Struct.Struct.{within}
@@ -17,7 +17,7 @@ abbrev pub Owned : State → Type 0
 Owned s = (x : Valss (shape the_type).fields) × shadow (within (shape the_type) (the_type.to s) (val the_type the_laws s ∷ []) x)
 
 pub writes_long : (s : State) → Owned s → length s.writes ≡ most_entries
-writes_long s g = simp length-map at g.1.1.1.1.1.0.1.0.1
+writes_long s g = g.1.1.1.1.1.0.1.0.1
 
 pub pins_long : (s : State) → Owned s → length s.pins ≡ most_pins
-pins_long s g = simp length-map at g.1.1.1.1.1.1.0.1.0.1
+pins_long s g = g.1.1.1.1.1.1.0.1.0.1

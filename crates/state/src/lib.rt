@@ -1,6 +1,7 @@
 // The state that goes in and out of every call, by value, and what is worked out from it and the ring's entries: moves, marks, letting
 // go, and what is asked. Document 01, "Moves". Nothing here reads or stores a byte of the ring.
 #![tactic(auto)]
+
 ghost use Rattle.std.specs.Prelude.{◌≡◌, true, false, [], map, ◌++◌, ◌+◌, ◌-◌, ◌≤◌, ◌<◌, length, take, drop, replicate};
 ghost use Rattle.layout.specs.Sizes.{most_entries, number_limit};
 ghost use Rattle.walk.specs.Walk.{slots_used, last_of, Rising};

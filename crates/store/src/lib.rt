@@ -2,6 +2,7 @@
 // Document 01, "The ring in battery memory". An entry is stored before the tail byte that shows it.
 // Each function is one pass over the bytes that it stores.
 #![tactic(auto)]
+
 ghost use Rattle.std.specs.Prelude.{◌≡◌, ◌++◌, ◌+◌, ◌%◌, ◌≤◌, ◌<◌, length, drop};
 ghost use Rattle.layout.specs.Sizes.{header_size, most_slots, largest, span_of};
 ghost use Rattle.layout.specs.Bytes.{Sized, put};
