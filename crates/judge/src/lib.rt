@@ -1,6 +1,7 @@
 // The judge of a ring and a state: whether the ring is readable (8) and the state fits it (12), from one walk.
 // Document 01, "When the box says no", last paragraph. Nothing here stores a byte.
 #![tactic(auto)]
+
 ghost use Rattle.std.specs.Prelude.{◌≡◌, true, false, not, ◌≤◌, ◌<◌, take, replicate, eqb};
 ghost use Rattle.layout.specs.Sizes.{most_entries};
 ghost use Rattle.layout.specs.Bytes.{both};
