@@ -1,6 +1,7 @@
 // The flush sheet: which pieces a batch has, and their bytes in a lent buffer. Document 01, "Moves", paragraph "Sheet".
 // There is no sort and no heap: a walk over the places where the newest write can change finds the pieces; the writes are then painted into them, oldest first.
 #![tactic(auto)]
+
 ghost use Rattle.std.specs.Prelude.{◌≡◌, ◌++◌, map, ◌+◌, ◌-◌, ◌*◌, ◌≤◌, ◌<◌, min, max, length, take, drop, replicate};
 ghost use Rattle.layout.specs.Sizes.{file_end, largest};
 ghost use Rattle.walk.specs.Entry.{data_of};
