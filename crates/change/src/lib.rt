@@ -2,6 +2,7 @@
 // Only our own crates call it: the callers show that the judge has let the call pass. Each promise is the call's own equation with `outcome`.
 // A write copies its slots once, the others store one byte; nothing here walks the ring. Two of the answers, with the state beside them, stand here too.
 #![tactic(auto)]
+
 ghost use Rattle.std.specs.Prelude.{◌≡◌, ◌∷◌, [], ◌++◌, map, true, ◌+◌, ◌≤◌, ◌<◌, take};
 ghost use Rattle.layout.specs.Sizes.{most_entries, number_limit};
 ghost use Rattle.layout.specs.Bytes.{Sized};
