@@ -2,6 +2,7 @@
 // Each takes the ring's bytes and the state, whatever they are, and answers; its promise is one equation with `outcome`, which settles what is
 // said, the state and every byte. Each judges ring and state by one walk.
 #![tactic(auto)]
+
 ghost use Rattle.std.specs.Prelude.{◌≡◌};
 ghost use Rattle.rules.specs.Call.{make_ring, reopen_ring, write, pin, unpin, ask_end, report, take_ticket, ask_ticket, ask_turn};
 ghost use Rattle.rules.specs.Outcome.{outcome, outcome_by};

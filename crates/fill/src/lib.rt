@@ -2,6 +2,7 @@
 // Costs one walk for the judge; then for each block of bytes before r one pass over the held writes, and for each byte a search over those that
 // touch its block, newest first.
 #![tactic(auto)]
+
 ghost use Rattle.std.specs.Prelude.{◌≡◌, [], ◌+◌, ◌≤◌, ◌<◌, length, take, replicate, ltb};
 ghost use Rattle.layout.specs.Sizes.{most_entries, file_end};
 ghost use Rattle.layout.specs.Bytes.{both, Sized};

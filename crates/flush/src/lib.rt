@@ -1,6 +1,7 @@
 // Starting a flush. Document 01, "Moves", paragraphs "Flush" and "Sheet"; refusals 8, 12, 1, 6, 5 and 11 of "When the box says no".
 // Costs one walk for the judge, one pass over the held writes for the batch, the sheet, and one pass to list the writes.
 #![tactic(auto)]
+
 ghost use Rattle.std.specs.Prelude.{◌≡◌, ◌+◌, ◌≤◌, ◌<◌, length, take, replicate, ltb};
 ghost use Rattle.layout.specs.Sizes.{most_entries, number_limit};
 ghost use Rattle.layout.specs.Bytes.{both};
