@@ -2,6 +2,7 @@
 // The state goes in and comes out by value, as the plain struct of `include/vibetorch.h`. A ring or a buffer is a pointer and a length.
 // Document 01, "What the box's cache does".
 #![tactic(auto)]
+
 ghost use Rattle.std.specs.Prelude.{◌≡◌};
 ghost use Rattle.rules.specs.Call.{make_ring, reopen_ring, write, pin, unpin, ask_end, report, take_ticket, ask_ticket, ask_turn, start_flush, fill_read};
 ghost use Rattle.rules.specs.Outcome.{outcome, refuses};

@@ -1,5 +1,5 @@
 -- The world and the tale side by side: what is true of them after every history. The steps keep it, the theorems read it off.
-use Prim.Native.Nat.{ℕ, ◌+◌, ◌<◌, ◌^◌}
+use Prim.Native.Nat.{ℕ, ◌<◌, ◌^◌}
 use mathlib.Core.Path.{◌≡◌}
 use mathlib.Core.Bool.{Bool, true, false}
 use mathlib.Core.List.{List, [], ◌++◌, map}

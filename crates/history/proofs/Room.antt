@@ -1,5 +1,5 @@
 -- The ring's size never changes, and the slots in use are those of the writes that must be held.
-use Prim.Native.Nat.{ℕ, ◌+◌, ◌-◌, ◌*◌}
+use Prim.Native.Nat.{ℕ, ◌+◌, ◌*◌}
 use mathlib.Core.Path.{◌≡◌, refl, sym, ap, ◌∙◌}
 use mathlib.Core.Bool.{Bool, true, false}
 use mathlib.Core.List.{List, [], ◌∷◌, map}

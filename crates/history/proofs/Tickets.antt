@@ -1,6 +1,6 @@
 -- A ticket taken since the last restart is done exactly when every write in reach accepted before it was taken has been in a batch reported good since that restart, or has left.
 -- Document 01, "Moves", paragraph "Ticket".
-use Prim.Native.Nat.{ℕ, ◌+◌, ◌<◌}
+use Prim.Native.Nat.{ℕ, ◌<◌}
 use mathlib.Core.Path.{◌≡◌, refl, sym, ap, ◌∙◌, subst}
 use mathlib.Core.Bool.{Bool, true, false, not}
 use mathlib.Core.List.{List, [], ◌∷◌, ◌++◌, append_assoc}

@@ -27,7 +27,7 @@ use Rattle.state.specs.Lists.{any, all, pairs, no_pin, most_pins, listed, holdin
 use Rattle.state.specs.Pins.{is_due, pin_place}
 use Rattle.state.proofs.Bools.{both_intro, both_no, both_fails, not_fails}
 use Rattle.state.proofs.Finding.{place_there}
-use Rattle.judge.specs.Fits.{fits, next_fits, pins_differ, pins_fit, pair_fits, is_in_flight, flight_fits, head_stays}
+use Rattle.judge.specs.Fits.{next_fits, pins_differ, pins_fit, pair_fits, is_in_flight, flight_fits, head_stays}
 use Rattle.judge.proofs.Fitting.{follows}
 use Rattle.judge.proofs.Rules.{IsFit, fits_true}
 use Rattle.rules.specs.Call.{Call, Kind, makes, reopens, writes, pins, unpins, asks_end, reports, starts, fills, takes_ticket, asks_ticket, asks_turn, is_one, make_ring, reopen_ring, ring_of}
