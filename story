@@ -10,8 +10,8 @@ fi
 [ -r "$script" ] || { echo "story: can't read $script" >&2; exit 2; }
 log=$(mktemp)
 trap 'rm -f "$log"' EXIT
-echo "Proving the cache and the program over it (about six minutes the first time) .." >&2
-if ! rt check bench >"$log" 2>&1; then
+echo "Proving the cache and the program over it (some minutes the first time) .." >&2
+if ! (cd crates/bench && rt run </dev/null) >"$log" 2>&1; then
     cat "$log" >&2
     exit 1
 fi

@@ -1,4 +1,4 @@
-/* Vibetorch for a host in C: the write-back cache of a chart box. Link target/staticlib/libcabi.a, which `rt staticlib cabi`
+/* Vibetorch for a host in C: the write-back cache of a chart box. Link crates/cabi/out/libcabi.a, which `rt lib` in crates/cabi
  * makes; it is for x86-64 Linux and needs nothing beside it.
  *
  * The library keeps nothing. The host owns the ring (battery memory), the state, and the buffers that it lends; each call

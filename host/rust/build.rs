@@ -7,7 +7,7 @@ fn main() {
     println!("cargo::rerun-if-env-changed=VIBETORCH_LIB");
     let folder = match env::var_os("VIBETORCH_LIB") {
         Some(folder) => PathBuf::from(folder),
-        None => Path::new(&variable("CARGO_MANIFEST_DIR")).join("../../target/staticlib"),
+        None => Path::new(&variable("CARGO_MANIFEST_DIR")).join("../../crates/cabi/out"),
     };
     let archive = folder.join("libcabi.a");
     println!("cargo::rerun-if-changed={}", archive.display());
@@ -17,7 +17,7 @@ fn main() {
         println!("cargo::error=libcabi.a is for x86-64 Linux only, and can't be linked for {processor} {system}");
     } else if !archive.is_file() {
         println!(
-            "cargo::error={} is missing: run 'rt staticlib cabi' in the repository's root, \
+            "cargo::error={} is missing: run 'rt lib' in crates/cabi, \
              or let VIBETORCH_LIB name the folder that has it",
             archive.display()
         );

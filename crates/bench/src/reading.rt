@@ -1,14 +1,29 @@
 // Reading a script to its end, and running each of its lines.
+ghost use Rattle.std.specs.Prelude.{◌≤◌, length};
+
 use crate::run;
 use crate::run::Bench;
 use layout::Ring;
-use libc::STDIN_FILENO;
 use looks::output;
+use looks::output::Out;
 use script::line;
 use state::{Listed, PINS, Pin, State};
+use std::io;
+use std::io::{Read, Stdin};
+
+// How many bytes are read at once, at most.
+const CHUNK: usize = 65536;
+
+// Where the script is read from.
+#[derive(Drop)]
+pub struct Script {
+    from: Stdin,
+    // A failure of a read. It counts as the input's end, and the program ends with it.
+    pub failed: io::Result<()>,
+}
 
 // How far the reading of lines came.
-#[derive(Drop)]
+#[derive(Clone, Copy)]
 pub struct Reading {
     // How many bytes of the next line are there.
     pub length: usize,
@@ -38,6 +53,13 @@ fn no_state() -> State {
     }
 }
 
+pub fn script_of(from: Stdin) -> Script {
+    Script {
+        from,
+        failed: Ok(()),
+    }
+}
+
 // Before the first line: no ring, no buffer, and a state of zeros.
 pub fn begin() -> Reading {
     let state = no_state();
@@ -55,7 +77,7 @@ pub fn begin() -> Reading {
     }
 }
 
-fn too_long(bench: Bench, number: u64, out: &mut [u8]) -> Bench {
+fn too_long(bench: Bench, number: u64, out: &mut Out) -> Bench {
     let at = output::say_number(out, bench.waiting, b"? ", number);
     let waiting = output::say(out, at, b" too long\n");
     let mut next = bench;
@@ -70,7 +92,7 @@ fn end_line(
     number: u64,
     store: &mut [u8],
     lent: &mut [u8],
-    out: &mut [u8],
+    out: &mut Out,
     bench: Bench,
 ) -> Bench {
     if room.len() < length {
@@ -85,7 +107,7 @@ fn feed(
     room: &mut [u8],
     store: &mut [u8],
     lent: &mut [u8],
-    out: &mut [u8],
+    out: &mut Out,
     reading: Reading,
 ) -> Reading {
     let mut bench = reading.bench;
@@ -98,7 +120,7 @@ fn feed(
         filled = taken.length;
         if taken.ended {
             bench = end_line(filled, room, number, store, lent, out, bench);
-            number = std::num::wrapping_add_u64(number, 1);
+            number = number.wrapping_add(1);
             filled = 0;
         }
     }
@@ -115,7 +137,7 @@ fn finish(
     room: &[u8],
     store: &mut [u8],
     lent: &mut [u8],
-    out: &mut [u8],
+    out: &mut Out,
     reading: Reading,
 ) -> Reading {
     let mut last = reading;
@@ -137,40 +159,52 @@ fn finish(
     last
 }
 
+// Reads once, and answers how many bytes of the chunk are read; none at the input's end.
+fn read(script: &mut Script, chunk: &mut [u8]) -> usize
+    ensures { result ≤ length chunk.new }
+{
+    let mut from = script.from;
+    match from.read(chunk) {
+        Ok(n) => n,
+        Err(e) => {
+            script.failed = Err(e);
+            0
+        }
+    }
+}
+
 // Reads once, and runs the lines that end in what came. At the input's end a last line may lack its own.
 fn read_some(
+    script: &mut Script,
     room: &mut [u8],
     store: &mut [u8],
     lent: &mut [u8],
-    out: &mut [u8],
+    out: &mut Out,
     reading: Reading,
 ) -> Reading {
-    let mut chunk = io::large_buffer();
-    let got = libc::read(STDIN_FILENO, &mut chunk);
-    let n = io::count(got, &chunk);
+    let mut chunk = [0u8; CHUNK];
+    let n = read(script, &mut chunk);
     if n == 0 {
         return finish(room, store, lent, out, reading);
     }
     feed(&chunk[..n], room, store, lent, out, reading)
 }
 
-// Reads to the input's end. A proved loop has to end, and nothing says that an input does: the turns count down from a number
-// that no run uses up.
+// Reads to the input's end. A proved loop has to end, and nothing says that an input does: the turns are as many as no run uses up.
 pub fn read_all(
+    script: &mut Script,
     room: &mut [u8],
     store: &mut [u8],
     lent: &mut [u8],
-    out: &mut [u8],
+    out: &mut Out,
     start: Reading,
 ) -> Reading {
     let mut reading = start;
-    let mut turns = u64::MAX;
-    while 0 < turns {
-        reading = read_some(room, store, lent, out, reading);
+    for _ in 0..u64::MAX {
+        reading = read_some(script, room, store, lent, out, reading);
         if reading.ended {
             return reading;
         }
-        turns -= 1;
     }
     reading
 }

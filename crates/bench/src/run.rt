@@ -2,12 +2,13 @@
 use crate::{call, damage};
 use command::{Call, Command, Look};
 use looks::answer::{Answer, Answered};
+use looks::output::Out;
 use looks::{answer, look};
 use script::line;
 use state::State;
 
 // What the script works on, but for the bytes.
-#[derive(Drop)]
+#[derive(Clone, Copy)]
 pub struct Bench {
     // How long the ring and the buffer are.
     pub ring: usize,
@@ -18,7 +19,7 @@ pub struct Bench {
 }
 
 // The bench after an answer to the line of that number.
-fn after(bench: Bench, number: u64, said: Answered, out: &mut [u8]) -> Bench {
+fn after(bench: Bench, number: u64, said: Answered, out: &mut Out) -> Bench {
     let state = said.state;
     let answer = said.answer;
     let waiting = answer::say_answer(out, bench.waiting, number, answer);
@@ -31,7 +32,7 @@ fn after(bench: Bench, number: u64, said: Answered, out: &mut [u8]) -> Bench {
 }
 
 // The line is no command.
-fn refuse(bench: Bench, number: u64, out: &mut [u8]) -> Bench {
+fn refuse(bench: Bench, number: u64, out: &mut Out) -> Bench {
     let state = bench.state;
     after(bench, number, answer::reply(state, Answer::Not), out)
 }
@@ -43,7 +44,7 @@ fn run_call(
     number: u64,
     store: &mut [u8],
     lent: &mut [u8],
-    out: &mut [u8],
+    out: &mut Out,
     bench: Bench,
 ) -> Bench {
     let n = call::ring_in(call, bench.ring);
@@ -68,7 +69,7 @@ fn run_look(
     number: u64,
     store: &[u8],
     lent: &[u8],
-    out: &mut [u8],
+    out: &mut Out,
     bench: Bench,
 ) -> Bench {
     let n = bench.ring;
@@ -100,7 +101,7 @@ fn run_poke(
     byte: u8,
     number: u64,
     store: &mut [u8],
-    out: &mut [u8],
+    out: &mut Out,
     bench: Bench,
 ) -> Bench {
     let n = bench.ring;
@@ -118,7 +119,7 @@ pub fn run(
     number: u64,
     store: &mut [u8],
     lent: &mut [u8],
-    out: &mut [u8],
+    out: &mut Out,
     bench: Bench,
 ) -> Bench {
     if line::is_skipped(line) {

@@ -1,10 +1,12 @@
 // Commands of a script: what a line asks for. A command is told by how many words it has and by the first of them.
+#![tactic(auto)]
+
 use script::bytes::Byte;
 use script::word::{Number, Short, Size, Tiny};
 use script::{bytes, word};
 
 // A call of the library.
-#[derive(Drop)]
+#[derive(Clone, Copy)]
 pub enum Call {
     Make {
         length: usize,

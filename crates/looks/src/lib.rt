@@ -1,5 +1,7 @@
 // What the bench program prints (docs/SCRIPT.md): answers, looks at ring, buffer and state, and the picture of the ring. What is to be written waits in a lent buffer.
 // Each function is one pass over what it prints.
+#![tactic(auto)]
+
 pub mod answer;
 pub mod look;
 pub mod output;

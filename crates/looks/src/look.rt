@@ -1,4 +1,5 @@
 // The looks that a script takes at ring, buffer and state.
+use crate::output::Out;
 use crate::{answer, output, show};
 use command::Look;
 use layout::Ring;
@@ -6,7 +7,7 @@ use script::sum;
 use state::{Listed, PINS, Pin, State};
 
 // A part of some bytes, if there is such a part; else the line of that number is no command.
-fn say_part(out: &mut [u8], at: usize, line: u64, bytes: &[u8], from: usize, to: usize) -> usize {
+fn say_part(out: &mut Out, at: usize, line: u64, bytes: &[u8], from: usize, to: usize) -> usize {
     if to < from {
         return answer::say_line(out, at, b"? ", line);
     }
@@ -18,7 +19,7 @@ fn say_part(out: &mut [u8], at: usize, line: u64, bytes: &[u8], from: usize, to:
     output::say(out, at, b"\n")
 }
 
-fn say_sum(out: &mut [u8], at: usize, bytes: &[u8]) -> usize {
+fn say_sum(out: &mut Out, at: usize, bytes: &[u8]) -> usize {
     let sum = sum::sum_of(bytes);
     let text = [
         (sum / 16777216) as u8,
@@ -31,12 +32,12 @@ fn say_sum(out: &mut [u8], at: usize, bytes: &[u8]) -> usize {
     output::say(out, at, b"\n")
 }
 
-fn say_one(out: &mut [u8], at: usize, one: Listed) -> usize {
+fn say_one(out: &mut Out, at: usize, one: Listed) -> usize {
     let at = output::say_number(out, at, b" ", one.number);
     output::say_number(out, at, b":", one.phase as u64)
 }
 
-fn say_listed(out: &mut [u8], at: usize, writes: [Listed; Ring::ENTRIES], count: usize) -> usize {
+fn say_listed(out: &mut Out, at: usize, writes: [Listed; Ring::ENTRIES], count: usize) -> usize {
     let mut to = output::say(out, at, b" w");
     let mut i = 0;
     while i < Ring::ENTRIES {
@@ -50,7 +51,7 @@ fn say_listed(out: &mut [u8], at: usize, writes: [Listed; Ring::ENTRIES], count:
     to
 }
 
-fn say_pin(out: &mut [u8], at: usize, place: usize, pin: Pin) -> usize {
+fn say_pin(out: &mut Out, at: usize, place: usize, pin: Pin) -> usize {
     if pin.number == 0 {
         return at;
     }
@@ -60,7 +61,7 @@ fn say_pin(out: &mut [u8], at: usize, place: usize, pin: Pin) -> usize {
     output::say_number(out, at, b":", pin.node as u64)
 }
 
-fn say_pins(out: &mut [u8], at: usize, pins: [Pin; PINS]) -> usize {
+fn say_pins(out: &mut Out, at: usize, pins: [Pin; PINS]) -> usize {
     let mut to = output::say(out, at, b" p");
     let mut i = 0;
     while i < PINS {
@@ -71,13 +72,13 @@ fn say_pins(out: &mut [u8], at: usize, pins: [Pin; PINS]) -> usize {
     to
 }
 
-fn say_numbers(out: &mut [u8], at: usize, s: State) -> usize {
+fn say_numbers(out: &mut Out, at: usize, s: State) -> usize {
     let at = output::say_number(out, at, b"ok ", s.next);
     let at = output::say_number(out, at, b" ", s.flush);
     output::say_number(out, at, b" ", s.count as u64)
 }
 
-fn say_state(out: &mut [u8], at: usize, s: State) -> usize {
+fn say_state(out: &mut Out, at: usize, s: State) -> usize {
     let writes = s.writes;
     let pins = s.pins;
     let at = say_numbers(out, at, s);
@@ -88,7 +89,7 @@ fn say_state(out: &mut [u8], at: usize, s: State) -> usize {
 
 // What a look shows, for the line of that number.
 pub fn say_look(
-    out: &mut [u8],
+    out: &mut Out,
     at: usize,
     line: u64,
     look: Look,

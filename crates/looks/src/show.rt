@@ -1,4 +1,5 @@
 // The picture of a ring: a cell for each slot, a letter for each node, and the pins.
+use crate::output::Out;
 use crate::{answer, output};
 use judge::Verdict;
 use layout::Ring;
@@ -8,7 +9,7 @@ use state::{FLUSHED, Held, IN_FLIGHT, PINS, Pin, State};
 const LETTERS: usize = 52;
 
 // The nodes that have a letter, in the letters' order.
-#[derive(Drop)]
+#[derive(Clone, Copy)]
 struct Legend {
     count: usize,
     nodes: [u32; LETTERS],
@@ -155,7 +156,7 @@ fn mark_all(
 }
 
 // At each sixteenth slot a line begins, with the slot's place in three columns.
-fn say_place(out: &mut [u8], at: usize, slot: usize) -> usize {
+fn say_place(out: &mut Out, at: usize, slot: usize) -> usize {
     if slot % 16 != 0 {
         return at;
     }
@@ -168,13 +169,13 @@ fn say_place(out: &mut [u8], at: usize, slot: usize) -> usize {
     output::say_number(out, at, b"\n  ", slot as u64)
 }
 
-fn say_cell(out: &mut [u8], at: usize, slot: usize, letter: u8, sign: u8) -> usize {
+fn say_cell(out: &mut Out, at: usize, slot: usize, letter: u8, sign: u8) -> usize {
     let text = [b' ', letter, sign];
     let at = say_place(out, at, slot);
     output::say(out, at, &text)
 }
 
-fn say_cells(out: &mut [u8], at: usize, letters: &[u8], signs: &[u8], n: usize) -> usize {
+fn say_cells(out: &mut Out, at: usize, letters: &[u8], signs: &[u8], n: usize) -> usize {
     let mut to = at;
     let mut slot = 0;
     while slot < n {
@@ -192,13 +193,13 @@ fn say_cells(out: &mut [u8], at: usize, letters: &[u8], signs: &[u8], n: usize) 
 
 // ---- the lines around the cells
 
-fn say_head(out: &mut [u8], at: usize, ring: Ring, s: State) -> usize {
+fn say_head(out: &mut Out, at: usize, ring: Ring, s: State) -> usize {
     let at = output::say_number(out, at, b"ok ", ring.n as u64);
     let at = output::say_number(out, at, b" slots, ", ring.used as u64);
     output::say_number(out, at, b" used, next ", s.next)
 }
 
-fn say_flush(out: &mut [u8], at: usize, flush: u64) -> usize {
+fn say_flush(out: &mut Out, at: usize, flush: u64) -> usize {
     if flush == 0 {
         return output::say(out, at, b"\n");
     }
@@ -206,13 +207,13 @@ fn say_flush(out: &mut [u8], at: usize, flush: u64) -> usize {
     output::say(out, at, b" out\n")
 }
 
-fn say_node(out: &mut [u8], at: usize, place: usize, node: u32) -> usize {
+fn say_node(out: &mut Out, at: usize, place: usize, node: u32) -> usize {
     let text = [b' ', b' ', letter(place)];
     let at = output::say(out, at, &text);
     answer::say_line(out, at, b" is node ", node as u64)
 }
 
-fn say_legend(out: &mut [u8], at: usize, legend: Legend) -> usize {
+fn say_legend(out: &mut Out, at: usize, legend: Legend) -> usize {
     let mut to = at;
     let mut i = 0;
     while i < LETTERS {
@@ -225,7 +226,7 @@ fn say_legend(out: &mut [u8], at: usize, legend: Legend) -> usize {
     to
 }
 
-fn say_pin(out: &mut [u8], at: usize, pin: Pin) -> usize {
+fn say_pin(out: &mut Out, at: usize, pin: Pin) -> usize {
     if pin.number == 0 {
         return at;
     }
@@ -237,7 +238,7 @@ fn say_pin(out: &mut [u8], at: usize, pin: Pin) -> usize {
     answer::say_line(out, at, b" for node ", pin.node as u64)
 }
 
-fn say_pins(out: &mut [u8], at: usize, pins: [Pin; PINS]) -> usize {
+fn say_pins(out: &mut Out, at: usize, pins: [Pin; PINS]) -> usize {
     let mut to = at;
     let mut i = 0;
     while i < PINS {
@@ -251,7 +252,7 @@ fn say_pins(out: &mut [u8], at: usize, pins: [Pin; PINS]) -> usize {
 // ---- the picture
 
 fn say_slots(
-    out: &mut [u8],
+    out: &mut Out,
     at: usize,
     n: usize,
     held: [Held; Ring::ENTRIES],
@@ -265,7 +266,7 @@ fn say_slots(
 }
 
 fn say_picture(
-    out: &mut [u8],
+    out: &mut Out,
     at: usize,
     ring: Ring,
     held: [Held; Ring::ENTRIES],
@@ -281,7 +282,7 @@ fn say_picture(
     say_pins(out, at, pins)
 }
 
-pub fn say_show(out: &mut [u8], at: usize, bytes: &[u8], s: State) -> usize {
+pub fn say_show(out: &mut Out, at: usize, bytes: &[u8], s: State) -> usize {
     let judged = judge::judge(bytes, s);
     let verdict = judged.verdict;
     let held = judged.held;
