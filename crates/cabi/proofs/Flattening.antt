@@ -8,9 +8,9 @@ use Rattle.cabi.specs.declared.Answer.{Answer}
 use Rattle.cabi.specs.declared.Changed.{Changed}
 use Rattle.cabi.specs.Flat.{flat, changed_by}
 
-module _ (said : Said) (s : State) (r b : List ℕ) (o : Outcome) (a : Answer) (promised : lent_by said s r b ≡ o) (is-flat : a ≡ flat said) where
+module _ (said : Said) (s : State) (r b : List ℕ) (o : Outcome) (a : Answer) (promised : lent_by said s r b ≡ o) (is_flat : a ≡ flat said) where
   pub same_answer : a ≡ flat o.said
-  same_answer = is-flat ∙ ap (λ x. flat x.said) promised
+  same_answer = is_flat ∙ ap (λ x. flat x.said) promised
 
   pub same_changed : ◌≡◌ {A = Changed} (record { state = s; answer = a }) (changed_by o)
-  same_changed = ap (λ x. record { state = s; answer = x }) is-flat ∙ ap changed_by promised
+  same_changed = ap (λ x. record { state = s; answer = x }) is_flat ∙ ap changed_by promised

@@ -65,7 +65,7 @@ bytes_some f n node (e ∷ es) o = at (eqb e.node node) (bytes_some f n node es 
 
 module _ (r : List ℕ) (makeable : is_makeable (length r) ≡ true) (files : ℕ → List ℕ)
     (base later : List Move) (fair : AllFair (begins r files) (later ++ base)) (calm : NoRestart later)
-    (p : Pin) (Live-then : is_live_in p (tale (begins r files) base).live ≡ true) (Live-now : is_live_in p (tale (begins r files) (later ++ base)).live ≡ true) where
+    (p : Pin) (live_then : is_live_in p (tale (begins r files) base).live ≡ true) (live_now : is_live_in p (tale (begins r files) (later ++ base)).live ≡ true) where
   abbrev begin : World
   begin = begins r files
 
@@ -78,7 +78,7 @@ module _ (r : List ℕ) (makeable : is_makeable (length r) ≡ true) (files : �
   fair_from (m ∷ ls) f = fair_from ls f.1
 
   marked : Marked (world begin base).state.next (tale begin base).good (tale begin base).held p
-  marked = in_each (Marked (world begin base).state.next (tale begin base).good (tale begin base).held) p (tale begin base).live (tale_marked begin base (fair_from later fair)) Live-then
+  marked = in_each (Marked (world begin base).state.next (tale begin base).good (tale begin base).held) p (tale begin base).live (tale_marked begin base (fair_from later fair)) live_then
 
   order : (ms : List Move) → AllFair begin ms → InOrder 0 (tale begin ms).held
   order ms f =
@@ -124,7 +124,7 @@ module _ (r : List ℕ) (makeable : is_makeable (length r) ≡ true) (files : �
   over =
       let e = parted_from p.node p.mark 0 t.held (order (later ++ base) fair) in
       ap (lay S) e
-      ∙ absorb S file (puts_all (early p.node p.mark t.held)) (puts_all (from p.node p.mark t.held)) (since later fair calm Live-now)
+      ∙ absorb S file (puts_all (early p.node p.mark t.held)) (puts_all (from p.node p.mark t.held)) (since later fair calm live_now)
       (ap (lay file) (sym e) ∙ k.on_shore.has p.node)
 
   -- ---- the fill itself
@@ -152,7 +152,7 @@ module _ (r : List ℕ) (makeable : is_makeable (length r) ≡ true) (files : �
 
   -- g is "the lesser of n and what the file has from that offset", and the bytes before g are that file's
   module _ (offset g : ℕ) (buffer : List ℕ) (granted : refusal_of (fill_read p.number p.node offset g buffer) W.ring W.state ≡ none)
-      (lesser-is : g ≡ lesser (length buffer) (length S - offset)) (fetched : (i : ℕ) → i < g → get_or buffer i 0 ≡ get_or S (offset + i) 0) where
+      (lesser_is : g ≡ lesser (length buffer) (length S - offset)) (fetched : (i : ℕ) → i < g → get_or buffer i 0 ≡ get_or S (offset + i) 0) where
     abbrev pub count : ℕ
     count = fill_count (length buffer) g offset (end_of ws)
 
@@ -165,7 +165,7 @@ module _ (r : List ℕ) (makeable : is_makeable (length r) ≡ true) (files : �
 
     -- r is the lesser of n and what the history's file has from the offset
     pub fill_count_law : count ≡ lesser (length buffer) (length file - offset)
-    fill_count_law = claim_count S ws some_bytes offset g buffer lesser-is fetched ∙ ap (λ x. lesser (length buffer) (length x - offset)) over
+    fill_count_law = claim_count S ws some_bytes offset g buffer lesser_is fetched ∙ ap (λ x. lesser (length buffer) (length x - offset)) over
 
     within : count ≤ length buffer
     within = subst (◌≤ length buffer) (sym fill_count_law) (at (leb (length buffer) (length file - offset)) refl)
@@ -176,4 +176,4 @@ module _ (r : List ℕ) (makeable : is_makeable (length r) ≡ true) (files : �
 
     -- and the r bytes are those of the history's file
     pub fill_bytes : (i : ℕ) → i < count → get_or after i 0 ≡ get_or file (offset + i) 0
-    fill_bytes i h = claim_bytes S ws some_bytes offset g buffer lesser-is fetched count i h (let w = within in omega arith) ∙ ap (λ x. get_or x (offset + i) 0) over
+    fill_bytes i h = claim_bytes S ws some_bytes offset g buffer lesser_is fetched count i h (let w = within in omega arith) ∙ ap (λ x. get_or x (offset + i) 0) over

@@ -69,7 +69,7 @@ count_is n l e offset =
 
 -- ---- the claim, of a file S and writes laid over it
 
-module _ (S : List ℕ) (ws : List Write) (some_bytes : Each (λ w. 0 < length w.bytes) ws) (offset g : ℕ) (buffer : List ℕ) (lesser-is : g ≡ lesser (length buffer) (length S - offset))
+module _ (S : List ℕ) (ws : List Write) (some_bytes : Each (λ w. 0 < length w.bytes) ws) (offset g : ℕ) (buffer : List ℕ) (lesser_is : g ≡ lesser (length buffer) (length S - offset))
     (fetched : (i : ℕ) → i < g → get_or buffer i 0 ≡ get_or S (offset + i) 0) where
   abbrev file : List ℕ
   file = lay S (puts_all ws)
@@ -79,11 +79,11 @@ module _ (S : List ℕ) (ws : List Write) (some_bytes : Each (λ w. 0 < length w
 
   -- r is the lesser of n and what that file has from the offset
   pub claim_count : fill_count (length buffer) g offset (end_of ws) ≡ lesser (length buffer) (length (lay S (puts_all ws)) - offset)
-  claim_count = ap (λ x. fill_count (length buffer) x offset (end_of ws)) lesser-is ∙ count_is (length buffer) (length S) (end_of ws) offset ∙ ap (λ x. lesser (length buffer) (x - offset)) (sym file_length)
+  claim_count = ap (λ x. fill_count (length buffer) x offset (end_of ws)) lesser_is ∙ count_is (length buffer) (length S) (end_of ws) offset ∙ ap (λ x. lesser (length buffer) (x - offset)) (sym file_length)
 
   -- past what was fetched and short of the buffer's end, the shore's file has ended
   ended : (i : ℕ) → g ≤ i → i < length buffer → get_or S (offset + i) 0 ≡ 0
-  ended i h k = get_d_out S (offset + i) (let e = lesser-is ∙ lesser_min (length buffer) (length S - offset) in omega arith)
+  ended i h k = get_d_out S (offset + i) (let e = lesser_is ∙ lesser_min (length buffer) (length S - offset) in omega arith)
     where
       get_d_out : (l : List ℕ) (j : ℕ) → length l ≤ j → get_or l j 0 ≡ 0
       get_d_out [] j z = refl

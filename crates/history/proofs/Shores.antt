@@ -125,10 +125,10 @@ module _ (files shore : ℕ → List ℕ) (accepted held : List Write) (good : L
       at n true e = land_under (puts_all (waiting good n held)) (shore n) q.place q.byte (ap (λ m. touches q.place (puts_all (waiting good m held))) (sym (eqb-true node n e)) ∙ t)
 
   -- writes that are good leave from the front
-  module _ (gone held' : List Write) (e : held ≡ gone ++ held') (sureGone : Each (λ w. among w.number good ≡ true) gone) where
+  module _ (gone held' : List Write) (e : held ≡ gone ++ held') (sure_gone : Each (λ w. among w.number good ≡ true) gone) where
     pub shore_leaves : OnShore files shore accepted held' good
     shore_leaves = record {
-      sends = λ n. ap (λ ws. lay (shore n) (puts_all ws)) (sym (ap (waiting good n) e ∙ wait_same good n gone held' sureGone)) ∙ k.sends n;
+      sends = λ n. ap (λ ws. lay (shore n) (puts_all ws)) (sym (ap (waiting good n) e ∙ wait_same good n gone held' sure_gone)) ∙ k.sends n;
       has = λ n.
           has_end (file_of files accepted n) (puts_all (of_node n gone)) (puts_all (of_node n held'))
           (ap (lay (file_of files accepted n)) (sym (ap (λ ws. puts_all (of_node n ws)) e ∙ ap puts_all (those_append (is_of n) gone held') ∙ puts_append (of_node n gone) (of_node n held'))) ∙ k.has n);

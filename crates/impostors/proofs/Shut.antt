@@ -19,7 +19,7 @@ use Rattle.state.specs.Batch.{batch_of, take_first}
 use Rattle.state.proofs.Finding.{Each, each_by, each_true}
 use Rattle.judge.specs.Fits.{listed_fits, list_fits, next_fits, pins_differ, pins_fit, phases_fit, nodes_fit, pair_fits, flight_fits, head_stays, fits}
 use Rattle.shore.specs.Cover.{spans, byte_over}
-use Rattle.shore.specs.File.{put as putByte, lay, puts, puts_all}
+use Rattle.shore.specs.File.{put as put_byte, lay, puts, puts_all}
 use Rattle.sheet.specs.Sheet.{key_of, goes_on, gather, cut_in, cut_all, pieces_of, list_of, data_by, sheet_by, sheet_of, node_in, pieces_at, puts_at, puts_in, laid_at}
 use Rattle.rules.specs.Fill.{filled_from}
 use Rattle.rules.specs.Refusals.{refusal_of}
@@ -52,7 +52,7 @@ shut : (i : Shown) → is_shut i ≡ true → ShutOut i
 shut i e = (both_left _ _ e, λ same. never (let w : true ≡ false = sym (both_right i.fair _ e) ∙ ap not (ap (alike i.asked) (sym same) ∙ alike_same i.asked) in cc))
 
 computed : all is_shut impostors ≡ true
-unfolding round both is_ring_length zeros_at bytes2 bytes4 bytes8 put is_header pick_header header_of walk_in walk reading_of made name_bytes range_bytes head_bytes entry_bytes stored move_of reported mark_of keeps is_due leaving staying valid_fields is_entry pick_step head_moved listed_fits list_fits next_fits pins_differ pins_fit phases_fit nodes_fit pair_fits flight_fits head_stays fits refusal_of outcome number2 number4 number8 later_end turn_of bytes_at spans byte_over key_of goes_on gather cut_in cut_all pieces_of list_of data_by sheet_by sheet_of filled_from batch_of take_first laid_at putByte lay puts puts_all node_in pieces_at puts_at puts_in
+unfolding round both is_ring_length zeros_at bytes2 bytes4 bytes8 put is_header pick_header header_of walk_in walk reading_of made name_bytes range_bytes head_bytes entry_bytes stored move_of reported mark_of keeps is_due leaving staying valid_fields is_entry pick_step head_moved listed_fits list_fits next_fits pins_differ pins_fit phases_fit nodes_fit pair_fits flight_fits head_stays fits refusal_of outcome number2 number4 number8 later_end turn_of bytes_at spans byte_over key_of goes_on gather cut_in cut_all pieces_of list_of data_by sheet_by sheet_of filled_from batch_of take_first laid_at put_byte lay puts puts_all node_in pieces_at puts_at puts_in
 computed = refl
 
 pub all_shut : Each ShutOut impostors
@@ -60,7 +60,7 @@ all_shut = each_by _ _ impostors shut (each_true is_shut impostors computed)
 
 -- a wrong mark breaks only the fill claim: the file stays whole
 whole_still : alike own_mark_keeps_files.given own_mark_keeps_files.asked ≡ true
-unfolding round both is_ring_length zeros_at bytes2 bytes4 bytes8 put is_header pick_header header_of walk_in walk reading_of made name_bytes range_bytes head_bytes entry_bytes stored move_of reported mark_of keeps is_due leaving staying valid_fields is_entry pick_step head_moved listed_fits list_fits next_fits pins_differ pins_fit phases_fit nodes_fit pair_fits flight_fits head_stays fits refusal_of outcome number2 number4 number8 later_end turn_of bytes_at spans byte_over key_of goes_on gather cut_in cut_all pieces_of list_of data_by sheet_by sheet_of filled_from batch_of take_first laid_at putByte lay puts puts_all node_in pieces_at puts_at puts_in
+unfolding round both is_ring_length zeros_at bytes2 bytes4 bytes8 put is_header pick_header header_of walk_in walk reading_of made name_bytes range_bytes head_bytes entry_bytes stored move_of reported mark_of keeps is_due leaving staying valid_fields is_entry pick_step head_moved listed_fits list_fits next_fits pins_differ pins_fit phases_fit nodes_fit pair_fits flight_fits head_stays fits refusal_of outcome number2 number4 number8 later_end turn_of bytes_at spans byte_over key_of goes_on gather cut_in cut_all pieces_of list_of data_by sheet_by sheet_of filled_from batch_of take_first laid_at put_byte lay puts puts_all node_in pieces_at puts_at puts_in
 whole_still = refl
 
 pub only_the_fill : own_mark_keeps_files.given ≡ own_mark_keeps_files.asked
