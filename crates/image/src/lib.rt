@@ -1,5 +1,7 @@
 // What the slots of an entry hold: its head, its bytes, and zeros to the slot's end, 256 bytes at a time.
 // Document 01, "The ring in battery memory", second table. Nothing here is lent a ring.
+#![tactic(auto)]
+
 ghost use Rattle.std.specs.Prelude.{◌≡◌, ◌++◌, ◌≤◌, ◌<◌, length, drop, replicate};
 ghost use Rattle.layout.specs.Sizes.{slot_size, largest, slots_of};
 ghost use Rattle.image.specs.Image.{head_bytes, slot_bytes};
