@@ -1,2 +1,4 @@
 pub mod Fronts
 pub mod Stored
+pub mod Steps
+pub mod Storing

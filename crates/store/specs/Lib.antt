@@ -1,1 +1,3 @@
+pub mod Steps
 pub mod Store
+pub mod Storing

@@ -21,6 +21,8 @@ use layout::Ring;
 use reason::Reason;
 use walk::Entry;
 
+pub mod step;
+
 // The answer of making a ring; the only refusal is BadBuffer.
 #[derive(Clone, Copy)]
 pub enum Made {

@@ -1,11 +1,13 @@
-// The stores there are: a slot, and one byte. Nothing else but making stores in a ring, and each store is one step of a call.
+// Stores as steps: a slot, and one byte. Each store is one step of a call.
+// What `store` and `move_head` leave in a ring is what these steps leave, one after the other (proofs/Steps, `stored_run` and `moved_run`).
 // Document 02, Q-8: "A store of one byte lands whole or not at all; a slot that is cut short may hold anything."
-ghost use Rattle.std.specs.Prelude.{◌≡◌, ◌+◌, ◌%◌, ◌≤◌, ◌<◌, length};
+ghost use Rattle.std.specs.Prelude.{◌≡◌, ◌+◌, ◌≤◌, ◌<◌, length};
 ghost use Rattle.layout.specs.Sizes.{largest, slots_of};
 ghost use Rattle.layout.specs.Bytes.{Sized};
 ghost use Rattle.store.specs.Steps.{in_slot, one_byte, place_of, run_step};
-ghost use Rattle.store.specs.Store.{store_step};
+ghost use Rattle.store.specs.Storing.{store_step};
 
+use crate::tail_after;
 use layout::Ring;
 use walk::Entry;
 
@@ -28,14 +30,6 @@ pub fn put_byte(bytes: &mut [u8], p: usize, value: u8)
     ensures { bytes.new ≡ run_step bytes.old (one_byte p value) }
 {
     bytes[p] = value;
-}
-
-// The tail slot after an entry of so many slots, taken round at N.
-fn tail_after(n: usize, slot: usize, slots: usize) -> usize
-    requires { (0 < n) × (slot + slots < 65536) }
-    ensures { result ≡ (slot + slots) % n }
-{
-    (slot + slots) % n
 }
 
 // Step i of storing an entry with its bytes: one slot, or the tail byte behind the last.

@@ -11,7 +11,8 @@ use Rattle.layout.proofs.Sizes.{slots_some}
 use Rattle.walk.specs.declared.Entry.{Entry}
 use Rattle.image.specs.Image.{entry_bytes, slot_bytes}
 use Rattle.store.specs.Steps.{Step, in_slot, put_at, run_step}
-use Rattle.store.specs.Store.{slot_steps, tail_step, tail_after, store_steps, store_step}
+use Rattle.store.specs.Store.{tail_after}
+use Rattle.store.specs.Storing.{slot_steps, tail_step, store_steps, store_step}
 use Rattle.store.proofs.Steps.{slots_count}
 
 -- ---- step i of storing an entry

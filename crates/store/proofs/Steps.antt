@@ -1,10 +1,10 @@
 -- Laws of steps: runs and cuts of one run after another, slots in a row as one store, and what a cut leaves of a run that ends with one byte.
-use Prim.Native.Nat.{ℕ, zero, suc, ◌+◌, ◌-◌, ◌*◌, ◌%◌, ◌≤◌, ◌<◌}
+use Prim.Native.Nat.{ℕ, zero, suc, ◌+◌, ◌*◌, ◌%◌, ◌≤◌, ◌<◌}
 use mathlib.Core.Path.{◌≡◌, refl, sym, ap, ◌∙◌}
 use mathlib.Core.List.{List, [], ◌∷◌, ◌++◌}
 use mathlib.Core.Bool.{Bool, true, false}
 use native.Mathlib.Omega.{arith}
-use native.Mathlib.Nat.{add-zero, mod-lt}
+use native.Mathlib.Nat.{add-zero, mod-lt, mod-zero}
 use lib.ListN.{length, get_or, set, take, drop, length-set, length-append, length-take, length-drop, take-append-drop}
 use lib.Seq.{length-take-le, set-get_or}
 use lib.Dec.{eqb}
@@ -15,8 +15,9 @@ use Rattle.layout.proofs.Views.{run_place, slot_start}
 use Rattle.layout.proofs.Puts.{put_append}
 use Rattle.walk.specs.declared.Entry.{Entry}
 use Rattle.store.specs.Steps.{Step, in_slot, one_byte, put_at, place_of, run_step, run, torn, cut}
-use Rattle.image.specs.Image.{entry_bytes}
-use Rattle.store.specs.Store.{tail_after, slot_steps, tail_step, store_steps, stored, head_step, unless_same, head_steps, head_moved}
+use Rattle.image.specs.Image as image
+use Rattle.store.specs.Store.{name_bytes, range_bytes, head_bytes, entry_bytes, tail_after, stored, head_moved}
+use Rattle.store.specs.Storing.{slot_steps, tail_step, store_steps, head_step, unless_same, head_steps}
 use Rattle.image.proofs.Stored.{entry_length}
 
 -- ---- one run after another
@@ -95,8 +96,19 @@ at_put (b ∷ bs) r n p i h =
     let y : suc (p + i) ≡ p + (i + 1) = omega arith in
     rw (d, x, y) (at_put bs (set r (header_size + (p % span_of n) + i) b) n p (i + 1) (omega arith))
 
-pub slot_put : (bs r : List ℕ) (n s : ℕ) → 0 < n → length bs ≤ slot_size → put_at r (place_of (s % n)) bs ≡ put r n (s * slot_size) bs
-slot_put bs r n s z h =
+-- a ring of no slots has no end to go round
+put_bare : (bs r : List ℕ) (p : ℕ) → put_at r (header_size + p) bs ≡ put r 0 p bs
+unfolding put_at put
+put_bare [] r p = refl
+put_bare (b ∷ bs) r p =
+    let x : suc (header_size + p) ≡ header_size + suc p = omega arith in
+    rw (x, mod-zero p) (put_bare bs (set r (header_size + p) b) (suc p))
+
+pub slot_put : (bs r : List ℕ) (n s : ℕ) → length bs ≤ slot_size → put_at r (place_of (s % n)) bs ≡ put r n (s * slot_size) bs
+slot_put bs r zero s h = ap (λ k. put_at r (place_of k) bs) (mod-zero s) ∙ put_bare bs r (s * slot_size)
+slot_put bs r (suc m) s h =
+    let n = suc m in
+    let z : 0 < n = omega arith in
     let e = slot_start n s z in
     let l = mod-lt s z in
     let x : place_of (s % n) ≡ header_size + ((s * slot_size) % span_of n) + 0 = omega arith in
@@ -109,7 +121,7 @@ unfolding slot_steps
 slots_count n zero s bs = refl
 slots_count n (suc m) s bs = ap suc (slots_count n m (suc s) (drop slot_size bs))
 
-module _ (n : ℕ) (some : 0 < n) where
+module _ (n : ℕ) where
   module _ (s m : ℕ) (bs : List ℕ) (l : length bs ≡ suc m * slot_size) where
     first_long : length (take slot_size bs) ≡ slot_size
     first_long = length-take-le slot_size bs (omega arith)
@@ -122,7 +134,7 @@ module _ (n : ℕ) (some : 0 < n) where
     then_rest r xs =
         let e = first_long in
         let x : suc s * slot_size ≡ s * slot_size + length (take slot_size bs) = omega arith in
-        ap (λ y. put y n (suc s * slot_size) xs) (slot_put (take slot_size bs) r n s some (omega arith))
+        ap (λ y. put y n (suc s * slot_size) xs) (slot_put (take slot_size bs) r n s (omega arith))
         ∙ ap (λ q. put (put r n (s * slot_size) (take slot_size bs)) n q xs) x ∙ sym (put_append (take slot_size bs) xs r n (s * slot_size))
 
   pub slots_run : (m s : ℕ) (bs r : List ℕ) → length bs ≡ m * slot_size → run r (slot_steps n s m bs) ≡ put r n (s * slot_size) bs
@@ -145,7 +157,7 @@ module _ (n : ℕ) (some : 0 < n) where
   slots_cut zero s bs r l (suc k) h p v junk = absurd (let w : ⊥ = omega arith in w)
   slots_cut (suc m) s bs r l zero h p v junk =
       let e = length-take slot_size junk in
-      record { bytes = take slot_size junk; few = omega arith; is = slot_put (take slot_size junk) r n s some (omega arith) }
+      record { bytes = take slot_size junk; few = omega arith; is = slot_put (take slot_size junk) r n s (omega arith) }
   slots_cut (suc m) s bs r l (suc k) h p v junk =
       let o = slots_cut m (suc s) (drop slot_size bs) (put_at r (place_of (s % n)) (take slot_size bs)) (rest_long s m bs l) k (omega arith) p v junk in
       let a = length-append (take slot_size bs) o.bytes in
@@ -155,39 +167,54 @@ module _ (n : ℕ) (some : 0 < n) where
 
 -- ---- storing an entry
 
-module _ (r : List ℕ) (n : ℕ) (e : Entry) (bs : List ℕ) (some : 0 < n) (l : e.length ≡ length bs) where
-  -- its slots as one store, and then the tail byte
-  pub stored_is : stored r n e bs ≡ set (put r n (e.slot * slot_size) (entry_bytes e bs)) 3 (tail_after n e)
-  unfolding stored store_steps run
-  stored_is =
-      run_append (slot_steps n e.slot (slots_of e.length) (entry_bytes e bs)) (tail_step (tail_after n e) ∷ []) r
-      ∙ ap (λ y. set y 3 (tail_after n e)) (slots_run n some (slots_of e.length) e.slot (entry_bytes e bs) r (entry_length e bs l))
+-- the bytes of an entry that image's specs name are those that Store names
+pub entry_same : (e : Entry) (bs : List ℕ) → entry_bytes e bs ≡ image.entry_bytes e bs
+unfolding entry_bytes head_bytes name_bytes range_bytes image.entry_bytes image.head_bytes image.name_bytes image.range_bytes
+entry_same e bs = refl
 
-  pub stored_cut : (k : ℕ) → k ≤ slots_of e.length → (junk : List ℕ) → Left n some r e.slot (slots_of e.length) (cut r (store_steps n e bs) k junk)
+module _ (r : List ℕ) (n : ℕ) (e : Entry) (bs : List ℕ) (l : e.length ≡ length bs) where
+  -- its slots as one store, and then the tail byte
+  pub stored_is : run r (store_steps n e bs) ≡ set (put r n (e.slot * slot_size) (image.entry_bytes e bs)) 3 (tail_after n e)
+  unfolding store_steps run
+  stored_is =
+      run_append (slot_steps n e.slot (slots_of e.length) (image.entry_bytes e bs)) (tail_step (tail_after n e) ∷ []) r
+      ∙ ap (λ y. set y 3 (tail_after n e)) (slots_run n (slots_of e.length) e.slot (image.entry_bytes e bs) r (entry_length e bs l))
+
+  -- so what is stored is its steps, run
+  pub stored_run : stored r n e bs ≡ run r (store_steps n e bs)
+  unfolding stored
+  stored_run = ap (λ (x : List ℕ). set (put r n (e.slot * slot_size) x) 3 (tail_after n e)) (entry_same e bs) ∙ sym stored_is
+
+  pub stored_cut : (k : ℕ) → k ≤ slots_of e.length → (junk : List ℕ) → Left n r e.slot (slots_of e.length) (cut r (store_steps n e bs) k junk)
   unfolding store_steps
-  stored_cut k h junk = slots_cut n some (slots_of e.length) e.slot (entry_bytes e bs) r (entry_length e bs l) k h 3 (tail_after n e) junk
+  stored_cut k h junk = slots_cut n (slots_of e.length) e.slot (image.entry_bytes e bs) r (entry_length e bs l) k h 3 (tail_after n e) junk
 
 -- one step a slot, and one for the tail byte
 pub store_count : (n : ℕ) (e : Entry) (bs : List ℕ) → length (store_steps n e bs) ≡ slots_of e.length + 1
 unfolding store_steps
 store_count n e bs =
-    length-append (slot_steps n e.slot (slots_of e.length) (entry_bytes e bs)) (tail_step (tail_after n e) ∷ [])
-    ∙ ap (λ k. k + 1) (slots_count n (slots_of e.length) e.slot (entry_bytes e bs))
+    length-append (slot_steps n e.slot (slots_of e.length) (image.entry_bytes e bs)) (tail_step (tail_after n e) ∷ [])
+    ∙ ap (λ k. k + 1) (slots_count n (slots_of e.length) e.slot (image.entry_bytes e bs))
 
 -- ---- moving the head on
 
 -- the head byte, whether it was stored or stood there
-pub moved_is : (r : List ℕ) (slot : ℕ) → head_moved r slot ≡ set r 2 slot
-unfolding head_moved head_steps run
+pub moved_is : (r : List ℕ) (slot : ℕ) → run r (head_steps r slot) ≡ set r 2 slot
+unfolding head_steps run
 moved_is r slot = at (eqb (flat r 2) slot) refl
   where
     at : (b : Bool) → eqb (flat r 2) slot ≡ b → run r (unless_same b (head_step slot ∷ [])) ≡ set r 2 slot
     at true e = let q : get_or r 2 0 ≡ slot = eqb-true (flat r 2) slot e in sym (ap (set r 2) (sym q) ∙ set-get_or r 2 0)
     at false e = refl
 
+-- so the head moved on is its steps, run
+pub moved_run : (r : List ℕ) (slot : ℕ) → head_moved r slot ≡ run r (head_steps r slot)
+unfolding head_moved
+moved_run r slot = sym (moved_is r slot)
+
 -- where the head stays nothing is stored
 pub moved_none : (r : List ℕ) (slot : ℕ) → flat r 2 ≡ slot → r ≡ head_moved r slot
-moved_none r slot e = sym (moved_is r slot ∙ ap (set r 2) (sym e) ∙ set-get_or r 2 0)
+moved_none r slot e = sym (moved_run r slot ∙ moved_is r slot ∙ ap (set r 2) (sym e) ∙ set-get_or r 2 0)
 
 -- a cut before it changes nothing
 pub moved_cut : (r : List ℕ) (slot : ℕ) (junk : List ℕ) → cut r (head_steps r slot) 0 junk ≡ r
