@@ -22,7 +22,7 @@ module _ (r r' : List ℕ) (k : Alike r r') where
   at : (j : ℕ) → j < header_size → flat r j ≡ flat r' j
   at j l = let e : j ≡ 0 + j = omega arith in ap (flat r) e ∙ k.header.at j l ∙ ap (flat r') (sym e)
 
-  alike_header : header_of r ≡ header_of r'
+  pub alike_header : header_of r ≡ header_of r'
   unfolding header_of is_header
   alike_header =
       rw (

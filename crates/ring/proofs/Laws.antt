@@ -10,13 +10,14 @@ use Rattle.layout.specs.Sizes.{slot_size, span_of, most_entries}
 use Rattle.layout.specs.Bytes.{round, Sized, put}
 use Rattle.layout.specs.declared.Ring.{Ring}
 use Rattle.walk.specs.declared.Entry.{Entry}
+use Rattle.walk.specs.Header.{header_of}
 use Rattle.walk.specs.Walk.{readable, reading_of, written, write_of, writes_by, writes_of, slots_used, Rising}
 use Rattle.walk.proofs.Chain.{AllInRing}
 use Rattle.walk.proofs.Readings.{reading_sound, reading_header, reading_true, used_slots, entries_few, entries_rise, entries_inside}
 use Rattle.store.specs.Store.{slots_for, made, stored, head_moved}
 use Rattle.ring.specs.Ring.{empty_ring, slot_after, grown, shrunk, Storable, Alike}
 use Rattle.ring.proofs.Making.{made_readable}
-use Rattle.ring.proofs.Free.{free_alike, alike_reading, alike_writing}
+use Rattle.ring.proofs.Free.{free_alike, alike_header, alike_reading, alike_writing}
 use Rattle.ring.proofs.Storing.{next_readable, next_writes}
 use Rattle.ring.proofs.Moving.{moved_readable, moved_writes}
 
@@ -54,6 +55,9 @@ pub made_reads : (r : List ℕ) → Sized r (slots_for (length r)) → reading_o
 made_reads r z = reading_true (made_readable r z)
 
 -- ---- free slots: two rings that differ only there read alike, and hold the same writes
+
+pub alike_headed : (r r' : List ℕ) → Alike r r' → header_of r ≡ header_of r'
+alike_headed r r' k = alike_header r r' k
 
 pub alike_reads : (r r' : List ℕ) → Alike r r' → reading_of r ≡ reading_of r'
 alike_reads r r' k = alike_reading r r' k

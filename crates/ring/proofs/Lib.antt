@@ -2,4 +2,6 @@ mod Making
 mod Free
 mod Storing
 mod Moving
+pub mod Cutting
 pub mod Laws
+pub mod Several

@@ -1,1 +1,3 @@
 pub mod Ring
+pub mod Parts
+pub mod Several

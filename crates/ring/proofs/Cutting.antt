@@ -1,32 +1,41 @@
 -- What a cut leaves: before a part's last step a ring that differs in free slots only, and after it the ring with that part done.
-use Prim.Native.Nat.{ℕ, zero, suc, ◌+◌, ◌-◌, ◌%◌, ◌≤◌, ◌<◌}
+use Prim.Native.Nat.{ℕ, zero, suc, ◌+◌, ◌-◌, ◌*◌, ◌/◌, ◌%◌, ◌≤◌, ◌<◌}
 use mathlib.Core.Path.{◌≡◌, refl, sym, ap, ◌∙◌, subst}
 use mathlib.Core.Bool.{Bool, true, false}
+use mathlib.Core.Logic.{⊎_elim, ◌≢◌}
 use mathlib.Core.List.{List, [], ◌∷◌, ◌++◌}
 use native.Mathlib.Omega.{arith}
-use native.Mathlib.Nat.{mod-eq_of_lt}
+use native.Mathlib.Nat.{div-add-mod', mod-eq_of_lt, mod-mod, mul-le-mul_right, suc-mul}
 use borrow.Author.Tests.{leb-true, leb-false, eq-eqb, ne_eqb}
 use lib.ListN.{length}
 use lib.Dec.{eqb, leb}
-use Rattle.layout.specs.Sizes.{slots_of}
-use Rattle.layout.specs.Bytes.{flat}
+use Rattle.layout.specs.Sizes.{slot_size, span_of, slots_of}
+use Rattle.layout.specs.Bytes.{flat, put}
 use Rattle.layout.specs.declared.Ring.{Ring}
-use Rattle.layout.proofs.Puts.{mod_apart}
+use Rattle.layout.proofs.Views.{slot_start}
+use Rattle.layout.proofs.Tests.{lt_or_le}
+use Rattle.layout.proofs.Puts.{put_place}
 use Rattle.walk.specs.declared.Entry.{Entry}
 use Rattle.walk.specs.declared.Header.TheVariants.{Good}
 use Rattle.walk.specs.Header.{header_of}
 use Rattle.walk.specs.Walk.{readable, reading_of}
 use Rattle.walk.proofs.Readings.{reading_sound}
 use Rattle.store.specs.Steps.{Step, one_byte, run, cut}
-use Rattle.store.specs.Store.{store_steps, head_step, unless_same, head_steps}
+use Rattle.store.specs.Storing.{store_steps, head_step, unless_same, head_steps}
 use Rattle.store.proofs.Steps.{run_append, cut_within, cut_behind, stored_cut, store_count, moved_cut, head_count_law}
 use Rattle.ring.specs.Ring.{slot_after, tail_of, Alike}
 use Rattle.ring.specs.Parts.{Hidden, AllHidden, joined, first, whole_of}
 use Rattle.ring.proofs.Free.{free_alike}
-use Rattle.ring.proofs.Storing.{at_tail}
 
 pub alike_same : (r r' : List ℕ) → r ≡ r' → Alike r r'
 alike_same r r' e = subst (Alike r) e (record { len = refl; header = record { at = λ i l. refl }; slots = λ g q. record { at = λ i l. refl } })
+
+-- the slot at the tail, turned round and counted on from the head
+at_tail : (r : List ℕ) (g : Ring) (xs : List ℕ) (slot : ℕ) → 0 < g.n → slot ≡ tail_of g → put r g.n (slot * slot_size) xs ≡ put r g.n ((g.head + g.used) * slot_size) xs
+at_tail r g xs slot some e =
+    let end = g.head + g.used in
+    put_place xs r g.n (slot * slot_size) (end * slot_size)
+    (ap (λ (x : ℕ). (x * slot_size) % span_of g.n) e ∙ slot_start g.n (end % g.n) some ∙ ap (λ (x : ℕ). x * slot_size) (mod-mod end g.n) ∙ sym (slot_start g.n end some))
 
 -- ---- the parts there are: an entry's slots with the tail byte, the head byte, any one byte
 
@@ -36,7 +45,7 @@ store_hidden r g e bs h slot l room =
     let some : 0 < g.n = omega arith in
     record {
       at = λ k d junk.
-          let o = stored_cut r g.n e bs some l k (let c = store_count g.n e bs in omega arith) junk in
+          let o = stored_cut r g.n e bs l k (let c = store_count g.n e bs in omega arith) junk in
           let f = o.few in
           let free = free_alike r g o.bytes h (omega arith) in
           subst (Alike r) (sym (o.is ∙ at_tail r g o.bytes e.slot some slot)) free;
@@ -56,6 +65,16 @@ head_hidden r slot = record { at = λ k d junk. by k d junk }
     by : (k : ℕ) → k < length (head_steps r slot) → (junk : List ℕ) → Alike r (cut r (head_steps r slot) k junk)
     by zero d junk = alike_same r (cut r (head_steps r slot) 0 junk) (sym (moved_cut r slot junk))
     by (suc k) d junk = absurd (let w : ⊥ = (let c = head_count_law r slot in omega arith) in w)
+
+-- two places less than a turn apart are not the same slot
+mod_apart : (a b m : ℕ) → a < b → b < a + m → a % m ≢ b % m
+mod_apart a b m l h e =
+    let x = div-add-mod' a m in
+    let y = div-add-mod' b m in
+    ⊎_elim
+    (λ lt. let k = mul-le-mul_right m lt in omega (arith, suc-mul (a / m) m, k, x, y, e))
+    (λ le. let k = mul-le-mul_right m le in omega (arith, k, x, y, e))
+    (lt_or_le (a / m) (b / m))
 
 -- the head byte is stored exactly where something leaves
 abbrev pub one_if : ℕ → ℕ

@@ -5,7 +5,7 @@ use Rattle.layout.specs.declared.Ring.{Ring}
 use Rattle.walk.specs.declared.Entry.{Entry}
 use Rattle.walk.specs.Walk.{Write, written}
 use Rattle.store.specs.Steps.{Step}
-use Rattle.store.specs.Store.{store_steps}
+use Rattle.store.specs.Storing.{store_steps}
 use Rattle.ring.specs.Ring.{grown, Storable}
 
 -- an entry with its bytes

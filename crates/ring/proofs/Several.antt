@@ -1,10 +1,9 @@
 -- Several entries stored one behind the other: after a cut the ring holds the writes before, and each new one exactly if its tail byte was stored.
 use Prim.Native.Nat.{ℕ, ◌+◌, ◌-◌}
-use mathlib.Core.Path.{◌≡◌, refl, sym, ap, ◌∙◌}
+use mathlib.Core.Path.{◌≡◌, refl, sym, ap, ◌∙◌, subst}
 use mathlib.Core.Bool.{Bool, true, false}
 use mathlib.Core.List.{List, [], ◌∷◌, ◌++◌, map, append_assoc, append-nil}
 use mathlib.Core.Option.{Option, some}
-use lib.ListN.{length}
 use lib.Dec.{leb}
 use Rattle.layout.specs.Sizes.{slots_of}
 use Rattle.layout.specs.Bytes.{round}
@@ -13,8 +12,9 @@ use Rattle.walk.specs.declared.Entry.{Entry}
 use Rattle.walk.specs.Walk.{Write, readable, reading_of, write_of, writes_of}
 use Rattle.walk.proofs.Readings.{reading_sound, reading_header}
 use Rattle.store.specs.Steps.{run, cut}
-use Rattle.store.specs.Store.{store_steps, stored}
-use Rattle.store.proofs.Steps.{run_append, store_count}
+use Rattle.store.specs.Store.{stored}
+use Rattle.store.specs.Storing.{store_steps}
+use Rattle.store.proofs.Steps.{run_append, store_count, stored_run}
 use Rattle.ring.specs.Ring.{grown}
 use Rattle.ring.specs.Parts.{AllHidden, joined, first, whole_of}
 use Rattle.ring.specs.Several.{Coming, write_in, AllStorable, stores_of, first_in, tails_done}
@@ -22,12 +22,12 @@ use Rattle.ring.proofs.Cutting.{store_hidden, parts_cut}
 use Rattle.ring.proofs.Laws.{readable_facts, stored_reads, stored_holds, alike_holds}
 
 pub stores_hidden : (xs : List Coming) (r : List ℕ) (g : Ring) (es : List Entry) → reading_of r ≡ readable g es → AllStorable g es xs → AllHidden r (stores_of g.n xs)
-unfolding stored
 stores_hidden [] r g es q w = tt
 stores_hidden (x ∷ xs) r g es q w =
     let k = w.0 in (
       store_hidden r g x.entry x.bytes (reading_header (reading_sound r g es q)) k.slot k.bytes k.room,
-      stores_hidden xs (stored r g.n x.entry x.bytes) (grown g x.entry) (es ++ x.entry ∷ []) (stored_reads r g es x.entry x.bytes q k) w.1,
+      subst (λ y. AllHidden y (stores_of g.n xs)) (stored_run r g.n x.entry x.bytes k.bytes)
+          (stores_hidden xs (stored r g.n x.entry x.bytes) (grown g x.entry) (es ++ x.entry ∷ []) (stored_reads r g es x.entry x.bytes q k) w.1),
     )
 
 same_writes : (xs ys : List Write) → ◌≡◌ {A = Option (List Write)} (some xs) (some ys) → xs ≡ ys
@@ -35,12 +35,13 @@ same_writes xs ys e = cc
 
 pub stores_hold : (xs : List Coming) (r : List ℕ) (g : Ring) (es : List Entry) (ws : List Write) → reading_of r ≡ readable g es → writes_of r ≡ some ws → AllStorable g es xs
     → writes_of (run r (joined (stores_of g.n xs))) ≡ some (ws ++ map write_in xs)
-unfolding stored run
+unfolding run
 stores_hold [] r g es ws q e w = e ∙ ap some (sym (append-nil ws))
 stores_hold (x ∷ xs) r g es ws q e w =
     let old : map (write_of (round r g.n)) es ≡ ws = same_writes _ ws (sym (readable_facts r g es q).writes ∙ e) in
     let e₁ : writes_of (stored r g.n x.entry x.bytes) ≡ some (ws ++ write_in x ∷ []) = stored_holds r g es x.entry x.bytes q w.0 ∙ ap (λ ys. some (ys ++ write_in x ∷ [])) old in
     ap writes_of (run_append (store_steps g.n x.entry x.bytes) (joined (stores_of g.n xs)) r)
+    ∙ ap (λ y. writes_of (run y (joined (stores_of g.n xs)))) (sym (stored_run r g.n x.entry x.bytes (w.0).bytes))
     ∙ stores_hold xs (stored r g.n x.entry x.bytes) (grown g x.entry) (es ++ x.entry ∷ []) (ws ++ write_in x ∷ []) (stored_reads r g es x.entry x.bytes q w.0) e₁ w.1
     ∙ ap some (append_assoc ws (write_in x ∷ []) (map write_in xs))
 
