@@ -1,10 +1,13 @@
 // A plan: the stores that a call makes in a ring, as numbers, which a host may keep while it makes them one by one; and the one function that makes one.
 // Document 02, Q-8. A plan changes nothing by itself. A step looks at the header, and stores one slot or one byte.
+#![tactic(auto)]
+
 ghost use Rattle.std.specs.Prelude.{◌≡◌, [], ◌≤◌, ◌<◌, length};
 ghost use Rattle.layout.specs.Sizes.{most_slots, slots_of};
 ghost use Rattle.walk.specs.Header.{header_of};
 ghost use Rattle.store.specs.Steps.{run_step};
-ghost use Rattle.store.specs.Store.{pick_bytes, head_step, store_step};
+ghost use Rattle.store.specs.Store.{pick_bytes};
+ghost use Rattle.store.specs.Storing.{head_step, store_step};
 ghost use Rattle.plan.specs.Plan.{
   no_plan,
   head_count,
@@ -25,7 +28,7 @@ use walk::{Entry, Header};
 
 // First the head byte, where the head moves; then the entry, where there is one.
 #[repr(C)]
-#[derive(Drop)]
+#[derive(Clone, Copy)]
 pub struct Plan {
     // N of the ring that it was made for.
     pub n: usize,
@@ -37,14 +40,14 @@ pub struct Plan {
 }
 
 // Bytes of a ring: where they begin, and how many.
-#[derive(Drop)]
+#[derive(Clone, Copy)]
 pub struct Span {
     pub place: usize,
     pub length: usize,
 }
 
 // What a step stored; the only refusal is StateUnfit, of a plan that doesn't fit the ring or has no such step.
-#[derive(Drop)]
+#[derive(Clone, Copy)]
 pub enum Stepped {
     Stored(Span),
     Refused(Reason),

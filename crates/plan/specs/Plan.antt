@@ -10,7 +10,8 @@ use Rattle.walk.specs.declared.Header.TheVariants.{Good, Bad}
 use Rattle.walk.specs.Header.{header_of}
 use Rattle.walk.specs.Walk.{no_entry}
 use Rattle.store.specs.Steps.{Step, in_slot, one_byte, place_of, run_step}
-use Rattle.store.specs.Store.{pick_bytes, store_steps, tail_step, head_step, unless_same}
+use Rattle.store.specs.Store.{pick_bytes}
+use Rattle.store.specs.Storing.{store_steps, tail_step, head_step, unless_same}
 use Rattle.ring.specs.Ring.{tail_of}
 use Rattle.plan.specs.declared.Plan.{Plan}
 use Rattle.plan.specs.declared.Span.{Span}

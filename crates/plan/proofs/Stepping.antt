@@ -6,7 +6,7 @@ use mathlib.Core.Logic.{◌⊎◌, inl, inr}
 use mathlib.Core.List.{List, [], ◌∷◌, ◌++◌}
 use native.Mathlib.Omega.{arith}
 use lib.ListN.{length, get_or, take, length-append}
-use lib.Dec.{eqb, ltb}
+use lib.Dec.{eqb}
 use lib.Seq.{take-suc, take_all}
 use borrow.Author.Tests.{lt-ltb, le-ltb}
 use Rattle.layout.specs.Sizes.{slots_of}
@@ -15,7 +15,8 @@ use Rattle.layout.proofs.Tests.{lt_or_le}
 use Rattle.walk.specs.declared.Entry.{Entry}
 use Rattle.walk.specs.Header.{header_of}
 use Rattle.store.specs.Steps.{Step, run_step, run}
-use Rattle.store.specs.Store.{pick_bytes, store_steps, store_step, tail_step, head_step, unless_same}
+use Rattle.store.specs.Store.{pick_bytes}
+use Rattle.store.specs.Storing.{store_steps, store_step, tail_step, head_step, unless_same}
 use Rattle.store.proofs.Steps.{run_append, step_length, store_count}
 use Rattle.store.proofs.Storing.{store_slot, store_tail}
 use Rattle.plan.specs.declared.Plan.{Plan}

@@ -8,14 +8,13 @@ use lib.ListN.{length, take}
 use lib.Dec.{eqb}
 use borrow.Author.Tests.{eq-eqb, ne_eqb}
 use Rattle.layout.specs.Sizes.{largest, slots_of}
-use Rattle.layout.specs.Bytes.{flat}
 use Rattle.layout.specs.declared.Ring.{Ring}
 use Rattle.walk.specs.declared.Entry.{Entry}
 use Rattle.walk.specs.declared.Header.TheVariants.{Good}
 use Rattle.walk.specs.Header.{header_of}
 use Rattle.walk.proofs.Rules.{header_use}
 use Rattle.store.specs.Steps.{Step, run, cut}
-use Rattle.store.specs.Store.{store_steps, head_step, unless_same, head_steps}
+use Rattle.store.specs.Storing.{store_steps, head_step, unless_same, head_steps}
 use Rattle.store.proofs.Steps.{cut_none}
 use Rattle.ring.specs.Ring.{tail_of}
 use Rattle.ring.proofs.Cutting.{store_hidden}
