@@ -75,11 +75,11 @@ same_reason : (a b : Reason) → ◌≡◌ {A = Verdict} (Refused a) (Refused b)
 same_reason a b e = cc
 
 module _ (c : Call) (o : Judges c) (r : List ℕ) (s : State) where
-  unreadable_refused : reading_of r ≡ unreadable → refusal_of c r s ≡ some Unreadable
+  pub unreadable_refused : reading_of r ≡ unreadable → refusal_of c r s ≡ some Unreadable
   unfolding refusal_of both
   unreadable_refused q = rw (q, o.reads)
 
-  unfit_refused : (g : Ring) (es : List Entry) → reading_of r ≡ readable g es → fits es s ≡ false → refusal_of c r s ≡ some StateUnfit
+  pub unfit_refused : (g : Ring) (es : List Entry) → reading_of r ≡ readable g es → fits es s ≡ false → refusal_of c r s ≡ some StateUnfit
   unfolding refusal_of both
   unfit_refused g es q f = rw (q, o.reads, o.fits, f)
 
@@ -95,6 +95,9 @@ module _ (c : Call) (o : Judges c) (r : List ℕ) (s : State) where
   refused_at : (why : Reason) (j : Judged) (x : Reading) → reading_of r ≡ x → j ≡ judged_of x s → j.verdict ≡ Refused why → refusal_of c r s ≡ some why
   refused_at why j unreadable q e v = unreadable_refused q ∙ ap some (same_reason _ _ (ap (λ x. x.verdict) (sym e) ∙ v))
   refused_at why j (readable h es) q e v = refused_by why h es j (fits es s) q refl e v
+
+  pub judge_no : (why : Reason) (j : Judged) → j ≡ judged_of (reading_of r) s → j.verdict ≡ Refused why → refusal_of c r s ≡ some why
+  judge_no why j e v = refused_at why j (reading_of r) refl e v
 
   pub judge_refuses : (why : Reason) (j : Judged) → j ≡ judged_of (reading_of r) s → j.verdict ≡ Refused why → lent_by (refuses why) s r c.buffer ≡ outcome c r s
   unfolding outcome

@@ -5,4 +5,7 @@ pub mod Fit
 pub mod Taking
 pub mod Standing
 pub mod Staying
+pub mod Cuts
+pub mod Planning
+pub mod Reopening
 pub mod Saying

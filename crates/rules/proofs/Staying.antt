@@ -47,7 +47,7 @@ module _ (p : Reason → Bool) where
   none_by x xs true e o = never (let w : ◌≡◌ {A = Option Reason} (some x) none = (rw e at o) in cc)
   none_by x xs false e o = (e, rw e at o)
 
-  first_none : (d : Reason) (xs : List Reason) (i : ℕ) → first p xs ≡ none → i < length xs → p (get_or xs i d) ≡ false
+  pub first_none : (d : Reason) (xs : List Reason) (i : ℕ) → first p xs ≡ none → i < length xs → p (get_or xs i d) ≡ false
   first_none d [] i o h = absurd (omega arith)
   first_none d (x ∷ xs) zero o h = (none_by x xs (p x) refl o).0
   first_none d (x ∷ xs) (suc i) o h = first_none d xs i (none_by x xs (p x) refl o).1 (omega arith)

@@ -19,8 +19,8 @@ use Rattle.walk.specs.declared.Entry.{Entry}
 use Rattle.walk.specs.Walk.{Reading, readable, unreadable, reading_of, writes_of}
 use Rattle.walk.proofs.Readings.{reading_sound, reading_header}
 use Rattle.store.specs.Steps.{run, cut}
-use Rattle.store.specs.Store.{store_steps, stored, head_steps, head_moved}
-use Rattle.store.proofs.Steps.{cut_all_law, store_count, moved_cut, head_count_law}
+use Rattle.store.specs.Storing.{store_steps, head_steps}
+use Rattle.store.proofs.Steps.{cut_all_law, stored_run, store_count, moved_run, moved_cut, head_count_law}
 use Rattle.ring.specs.Ring.{Alike, slot_after}
 use Rattle.ring.proofs.Cutting.{alike_same, store_hidden}
 use Rattle.ring.proofs.Laws.{readable_facts, alike_reads, alike_holds}
@@ -40,8 +40,8 @@ module _ (c : Call) (r : List ℕ) (s : State) (not_made : is_one c (makes ∷ [
   -- ---- run to the end, the steps leave the outcome's ring
 
   report_runs : (b : Bool) (g : Ring) (hs : List Held) → (report_done b g hs r s).ring ≡ run r (report_steps b g hs r s)
-  unfolding run head_moved
-  report_runs true g hs = refl
+  unfolding run
+  report_runs true g hs = moved_run r (slot_after g (slots_left s.pins (map (reported good) hs)))
   report_runs false g hs = refl
 
   start_runs : (b : Bool) (g : Ring) (hs : List Held) → (start_done b c.node g hs r s c.buffer).ring ≡ r
@@ -49,12 +49,12 @@ module _ (c : Call) (r : List ℕ) (s : State) (not_made : is_one c (makes ∷ [
   start_runs false g hs = refl
 
   done_runs : (kind : Kind) → c.kind ≡ kind → (g : Ring) (es : List Entry) (hs : List Held) → (done_by kind c g es hs r s).ring ≡ run r (steps_by kind c g hs r s)
-  unfolding run stored head_moved
+  unfolding run
   done_runs makes e g es hs = never (let w : true ≡ false = (rw e at not_made) in cc)
   done_runs reopens e g es hs = refl
-  done_runs writes e g es hs = refl
+  done_runs writes e g es hs = stored_run r g.n (new_entry g s.next c) c.bytes refl
   done_runs pins e g es hs = refl
-  done_runs unpins e g es hs = refl
+  done_runs unpins e g es hs = moved_run r _
   done_runs asks_end e g es hs = refl
   done_runs reports e g es hs = report_runs c.good g hs
   done_runs starts e g es hs = start_runs (has_batch c.node hs) g hs

@@ -6,7 +6,7 @@ use Rattle.layout.specs.Sizes.{slots_of}
 use Rattle.layout.specs.declared.Ring.{Ring}
 use Rattle.walk.specs.Walk.{Write, reading_of}
 use Rattle.store.specs.Steps.{Step, cut}
-use Rattle.store.specs.Store.{store_steps, head_steps}
+use Rattle.store.specs.Storing.{store_steps, head_steps}
 use Rattle.ring.specs.Ring.{slot_after}
 use Rattle.state.specs.declared.State.{State}
 use Rattle.state.specs.declared.Held.{Held}

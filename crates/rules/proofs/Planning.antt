@@ -16,7 +16,7 @@ use Rattle.walk.specs.declared.Entry.{Entry}
 use Rattle.walk.specs.Walk.{Reading, readable, unreadable, reading_of}
 use Rattle.walk.proofs.Readings.{reading_sound, reading_header}
 use Rattle.store.specs.Steps.{Step, run}
-use Rattle.store.specs.Store.{store_steps, head_steps}
+use Rattle.store.specs.Storing.{store_steps, head_steps}
 use Rattle.store.proofs.Steps.{cut_none}
 use Rattle.ring.specs.Ring.{slot_after}
 use Rattle.ring.proofs.Laws.{readable_facts}

@@ -1,6 +1,6 @@
 -- What a call that is cut off reopens to, in the request's words: the writes held before, with the new one exactly if its tail byte was stored, and less those passed by
 -- the head. For every call that isn't refused, every count of steps, and any bytes in the slot that was cut short. Document 02, Q-8.
-use Prim.Native.Nat.{ℕ, ◌-◌}
+use Prim.Native.Nat.{ℕ}
 use mathlib.Core.Path.{◌≡◌, refl, sym, ap, ◌∙◌}
 use mathlib.Core.Bool.{Bool, true, false}
 use mathlib.Core.List.{List, [], ◌∷◌, ◌++◌, map, map-append, append-nil}
@@ -11,8 +11,7 @@ use Rattle.reason.specs.declared.Reason.{Reason}
 use Rattle.layout.specs.Bytes.{round}
 use Rattle.layout.specs.declared.Ring.{Ring}
 use Rattle.layout.proofs.Tests.{never}
-use Rattle.walk.specs.declared.Entry.{Entry}
-use Rattle.walk.specs.Walk.{Write, readable, reading_of, slots_used, write_of, writes_of}
+use Rattle.walk.specs.Walk.{Write, readable, reading_of, write_of, writes_of}
 use Rattle.store.specs.Steps.{cut}
 use Rattle.store.specs.Store.{head_moved, stored}
 use Rattle.ring.specs.Ring.{slot_after}
@@ -26,9 +25,8 @@ use Rattle.state.specs.Pins.{leaving, staying, slots_left}
 use Rattle.state.proofs.Reports.{report_entries}
 use Rattle.state.proofs.LettingGo.{leave_split}
 use Rattle.rules.specs.Call.{Call, Kind, makes, reopens, writes, pins, unpins, asks_end, reports, starts, fills, takes_ticket, asks_ticket, asks_turn, is_one, ring_of, entries_of, held_of}
-use Rattle.rules.specs.Flush.{has_batch}
 use Rattle.rules.specs.Refusals.{refusal_of}
-use Rattle.rules.specs.Outcome.{new_entry, unpinned, report_done, start_done, done_by, outcome}
+use Rattle.rules.specs.Outcome.{new_entry, report_done, start_done, done_by, outcome}
 use Rattle.rules.specs.Steps.{steps_of, ring_cut, is_made, added_by, passed_by, reopens_to}
 use Rattle.rules.proofs.Standing.{Real, Stands, hs_entries, storable}
 use Rattle.rules.proofs.Staying.{may_write}
