@@ -152,6 +152,7 @@ fn overlay(
 }
 
 // Whether a write is the node's and touches its file from a place up to an end.
+#[tactic(auto, using(std::proofs::lemmas::Bool::Decides::nat_tests), unfolding(layout::specs::Bytes::both))]
 fn is_near(held: Held, node: u32, from: usize, end: usize) -> bool
     ensures { result ≡ is_near node from end held }
 {

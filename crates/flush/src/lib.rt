@@ -50,6 +50,7 @@ struct Batch {
 }
 
 // Whether a write joins a batch of so many.
+#[tactic(auto, using(std::proofs::lemmas::Bool::Decides::nat_tests), unfolding(layout::specs::Bytes::both))]
 fn joins(held: Held, node: u32, many: usize) -> bool
     ensures { result ≡ both (ltb many most_batch) (is_waiting node held) }
 {

@@ -42,6 +42,7 @@ struct Seen {
 }
 
 // Whether a listed write has the ring's number, below the next, and is Unflushed, In flight or Flushed.
+#[tactic(auto, using(std::proofs::lemmas::Bool::Decides::nat_tests), unfolding(crate::specs::Fits::listed_fits, layout::specs::Bytes::both))]
 fn one_fits(listed: Listed, number: u64, next: u64) -> bool
     ensures { result ≡ listed_fits next number listed }
 {

@@ -126,6 +126,7 @@ pub fn move_of(from: usize, event: usize) -> u8
 }
 
 // A write after a report.
+#[tactic(auto, using(std::proofs::lemmas::Bool::Decides::nat_tests), unfolding(crate::specs::Moves::reported))]
 fn report_one(held: Held, event: usize) -> Held
     requires { event < 5 }
     ensures { result ≡ reported event held }
@@ -410,6 +411,7 @@ pub fn end_of(held: [Held; Ring::ENTRIES], count: usize, node: u32) -> u64
 }
 
 // The larger of an end and that of a write of the node.
+#[tactic(auto, using(std::proofs::lemmas::Bool::Decides::nat_tests), unfolding(crate::specs::Asks::later_end))]
 fn later_end(end: u64, held: Held, node: u32) -> u64
     ensures { result ≡ later_end node end held }
 {
