@@ -52,7 +52,7 @@ module _ (files : ℕ → List ℕ) (W : World) (t : Tale) (k : Agrees files W t
 
   -- ---- an unpin
 
-  module _ (c : Call) (Some-number : 0 < c.number) (h : pin_place c.number s.pins < length s.pins) where
+  module _ (c : Call) (some_number : 0 < c.number) (h : pin_place c.number s.pins < length s.pins) where
     abbrev i : ℕ
     i = pin_place c.number s.pins
 
@@ -67,7 +67,7 @@ module _ (files : ℕ → List ℕ) (W : World) (t : Tale) (k : Agrees files W t
     differ = both_right (all (λ p. ltb p.number s.next) s.pins) _ k.stands.fit.pins
 
     pins_left : PinsAre s₁.pins live
-    pins_left = pins_removed s.pins t.live c.number Some-number i refl h differ k.pinned
+    pins_left = pins_removed s.pins t.live c.number some_number i refl h differ k.pinned
 
     abbrev b : List ℕ
     b = numbers_of t.batch
