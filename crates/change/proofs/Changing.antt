@@ -1,9 +1,9 @@
 -- What each return of write, unpin and report comes to: the calls that change the ring.
+use Rattle.std.specs.Prelude.{Option, None, Some}
 use Prim.Native.Nat.{ℕ, ◌+◌, ◌≤◌}
 use mathlib.Core.Path.{◌≡◌, refl, sym, ◌∙◌, ap}
 use mathlib.Core.Bool.{Bool, true, false}
 use mathlib.Core.List.{List, [], ◌∷◌, ◌++◌, map}
-use mathlib.Core.Option.{Option, none, some}
 use native.Mathlib.Omega.{arith}
 use borrow.Author.Tests.{eq-eqb, ne_eqb, lt-ltb, le-ltb}
 use lib.ListN.{length, take, drop, set, length-map}
@@ -122,13 +122,13 @@ module _ (r : List ℕ) (s : State) (g : Ring) (count : ℕ) (held : List Held) 
   -- ---- write
 
   module _ (node handle offset : ℕ) (bs : List ℕ) (m : May) (em : m ≡ may_of (own (write node 0 offset bs) [] (readable g []) s)) where
-    may_none : (x : Option Reason) → may_of x ≡ Go → x ≡ none
-    may_none none e = refl
-    may_none (some why) e = never (cc)
+    may_none : (x : Option Reason) → may_of x ≡ Go → x ≡ None
+    may_none None e = refl
+    may_none (Some why) e = never (cc)
 
-    may_some : (x : Option Reason) (why : Reason) → may_of x ≡ Refused why → x ≡ some why
-    may_some none why e = never (cc)
-    may_some (some w) why e = ap some (same_may w why e)
+    may_some : (x : Option Reason) (why : Reason) → may_of x ≡ Refused why → x ≡ Some why
+    may_some None why e = never (cc)
+    may_some (Some w) why e = ap Some (same_may w why e)
 
     same : own (write node handle offset bs) r (readable g k.entries) s ≡ own (write node 0 offset bs) [] (readable g []) s
     same = own_write r (readable g k.entries) s node handle offset bs ∙ sym (own_write [] (readable g []) s node 0 offset bs)
@@ -138,7 +138,7 @@ module _ (r : List ℕ) (s : State) (g : Ring) (count : ℕ) (held : List Held) 
         sym (judge_passes (write node handle offset bs) (judges_write node handle offset bs) r s g count held k ∙ rw (same ∙ may_some _ why (sym em ∙ e)))
 
     module _ (e : m ≡ Go) where
-      goes : own (write node 0 offset bs) [] (readable g []) s ≡ none
+      goes : own (write node 0 offset bs) [] (readable g []) s ≡ None
       goes = may_none _ (sym em ∙ e)
 
       pub writable : Writable g s node offset (length bs)

@@ -1,6 +1,5 @@
 -- What an answer beside a state says on paper: the refusal's number, or the values. Document 01, "When the box says no".
-use Rattle.std.specs.Prelude.{[], ◌∷◌}
-use Rattle.std.proofs.Math.Option.{Option, none, some}
+use Rattle.std.specs.Prelude.{[], ◌∷◌, Option, None, Some}
 use Rattle.reason.specs.declared.Reason.{Reason}
 use Rattle.rules.specs.Outcome.{Said, says, refuses}
 use Rattle.change.specs.declared.Numbered.{Numbered}
@@ -22,5 +21,5 @@ said_done (ack.Refused why) = refuses why
 
 -- a call's own refusals, in code
 abbrev pub may_of : Option Reason → May
-may_of none = may.Go
-may_of (some why) = may.Refused why
+may_of None = may.Go
+may_of (Some why) = may.Refused why

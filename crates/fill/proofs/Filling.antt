@@ -1,8 +1,8 @@
 -- What a fill's count comes to, and each of its returns. Document 01, "Moves", paragraph "Fill".
+use Rattle.std.specs.Prelude.{None}
 use Prim.Native.Nat.{ℕ, ◌+◌, ◌-◌, ◌≤◌, max, min}
 use mathlib.Core.Path.{◌≡◌, refl, sym, ap, ◌∙◌}
 use mathlib.Core.List.{List, [], ◌∷◌}
-use mathlib.Core.Option.{none}
 use lib.ListN.{length, take}
 use Rattle.reason.specs.declared.Reason.{Reason}
 use Rattle.layout.specs.Sizes.{file_end}
@@ -42,7 +42,7 @@ module _ (r : List ℕ) (s : State) (g : Ring) (count : ℕ) (held : List Held) 
       ∙ rw (own_same s pin node offset fetched b r (readable g k.entries) ∙ may_some _ why (sym em ∙ e)))
 
   module _ (e : m ≡ Go) where
-    goes : own (fill_read pin node offset fetched b) [] unreadable s ≡ none
+    goes : own (fill_read pin node offset fetched b) [] unreadable s ≡ None
     goes = may_none _ (sym em ∙ e)
 
     pub fits : (offset + length b ≤ file_end) × (fetched ≤ length b)

@@ -1,9 +1,9 @@
 -- A fill's own refusals, one row at a time, and what a fill that isn't refused keeps. Document 01, "When the box says no".
+use Rattle.std.specs.Prelude.{Option, None, Some}
 use Prim.Native.Nat.{ℕ, ◌+◌, ◌≤◌, ◌<◌}
 use mathlib.Core.Path.{◌≡◌, refl, sym, ap, ◌∙◌}
 use mathlib.Core.Bool.{Bool, true, false, not}
 use mathlib.Core.List.{List, []}
-use mathlib.Core.Option.{Option, none, some}
 use borrow.Author.Tests.{eq-eqb, ne_eqb, lt-ltb, le-ltb, ltb-false}
 use lib.ListN.{length}
 use lib.Dec.{eqb, ltb}
@@ -25,19 +25,19 @@ use Rattle.fill.specs.declared.May.TheVariants.{Go, Refused}
 use Rattle.fill.specs.Answers.{may_of}
 
 -- a verdict tells the row
-pub may_none : (x : Option Reason) → may_of x ≡ Go → x ≡ none
-may_none none e = refl
-may_none (some why) e = never (cc)
+pub may_none : (x : Option Reason) → may_of x ≡ Go → x ≡ None
+may_none None e = refl
+may_none (Some why) e = never (cc)
 
 same_may : (a b : Reason) → ◌≡◌ {A = May} (Refused a) (Refused b) → a ≡ b
 same_may a b e = cc
 
-pub may_some : (x : Option Reason) (why : Reason) → may_of x ≡ Refused why → x ≡ some why
-may_some none why e = never (cc)
-may_some (some w) why e = ap some (same_may w why e)
+pub may_some : (x : Option Reason) (why : Reason) → may_of x ≡ Refused why → x ≡ Some why
+may_some None why e = never (cc)
+may_some (Some w) why e = ap Some (same_may w why e)
 
 -- rows that aren't given
-rows_none : (x y v w : Bool) → or x NodeZero (or y PastFileEnd (or v NoSuchPin (or w BadBuffer none))) ≡ none → (y ≡ false) × (w ≡ false)
+rows_none : (x y v w : Bool) → or x NodeZero (or y PastFileEnd (or v NoSuchPin (or w BadBuffer None))) ≡ None → (y ≡ false) × (w ≡ false)
 rows_none true y v w e = never (cc)
 rows_none false true v w e = never (cc)
 rows_none false false true w e = never (cc)
@@ -80,7 +80,7 @@ module _ (s : State) (pin node offset fetched : ℕ) (b : List ℕ) where
               ∙ rw (ne_eqb node 0 z, le-ltb file_end (offset + length b) e, sym u ∙ k, le-ltb (length b) fetched h, le-ltb longest_fill (length b) l))
 
   -- a fill that isn't refused ends within a file, and no more was fetched than its buffer holds
-  pub fillable : own (fill_read pin node offset fetched b) [] unreadable s ≡ none → (offset + length b ≤ file_end) × (fetched ≤ length b)
+  pub fillable : own (fill_read pin node offset fetched b) [] unreadable s ≡ None → (offset + length b ≤ file_end) × (fetched ≤ length b)
   fillable e =
       let k = rows_none (eqb node 0) (ltb file_end (offset + length b)) (not (both (ltb 0 pin) (has_pin_for pin node s.pins))) (pick (ltb (length b) fetched) true (ltb longest_fill (length b)))
       (sym (own_fill [] unreadable s pin node offset fetched b) ∙ e) in

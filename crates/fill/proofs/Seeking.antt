@@ -1,10 +1,10 @@
 -- The search for a byte: from the newest held write back, the first that covers the place is the newest of those that do.
 -- Document 01, "Moves", paragraph "Fill": "the search for a byte stops at the newest write that covers it".
+use Rattle.std.specs.Prelude.{Option, None, Some}
 use Prim.Native.Nat.{ℕ, suc, ◌-◌, ◌*◌, ◌+◌, ◌≤◌, ◌<◌}
 use mathlib.Core.Path.{◌≡◌, refl, sym, ap, ◌∙◌}
 use mathlib.Core.Bool.{Bool, true, false}
 use mathlib.Core.List.{List, [], ◌∷◌, ◌++◌, map}
-use mathlib.Core.Option.{Option, none, some}
 use native.Mathlib.Omega.{arith}
 use lib.ListN.{length, take, get_or}
 use lib.Seq.{take-suc}
@@ -37,20 +37,20 @@ over_inside node p h e =
 -- ---- the newest of a node's writes is that of the last held write which is the node's and covers the place
 
 abbrev wrote : (ℕ → ℕ) → Option Held → Option Write
-wrote f none = none
-wrote f (some h) = some (write_of f h.entry)
+wrote f None = None
+wrote f (Some h) = Some (write_of f h.entry)
 
-wrote_pick : (f : ℕ → ℕ) (b : Bool) (h : Held) (o : Option Held) → wrote f (pick b (some h) o) ≡ pick b (some (write_of f h.entry)) (wrote f o)
+wrote_pick : (f : ℕ → ℕ) (b : Bool) (h : Held) (o : Option Held) → wrote f (pick b (Some h) o) ≡ pick b (Some (write_of f h.entry)) (wrote f o)
 wrote_pick f true h o = refl
 wrote_pick f false h o = refl
 
 wrote_or : (f : ℕ → ℕ) (o v : Option Held) → wrote f (or_else o v) ≡ or_else (wrote f o) (wrote f v)
-wrote_or f none v = refl
-wrote_or f (some h) v = refl
+wrote_or f None v = refl
+wrote_or f (Some h) v = refl
 
-or_none : {A : Type 0} (o : Option A) → or_else o none ≡ o
-or_none none = refl
-or_none (some x) = refl
+or_none : {A : Type 0} (o : Option A) → or_else o None ≡ o
+or_none None = refl
+or_none (Some x) = refl
 
 -- the last that passes stays the last where others are left out
 last_those : {A : Type 0} (p q : A → Bool) → ((x : A) → p x ≡ true → q x ≡ true) → (xs : List A) → last_that p (those q xs) ≡ last_that p xs
@@ -58,11 +58,11 @@ last_those p q k [] = refl
 last_those p q k (x ∷ xs) = at (q x) refl (last_those p q k xs)
   where
     at : (b : Bool) → q x ≡ b → last_that p (those q xs) ≡ last_that p xs
-        → last_that p (pick b (x ∷ those q xs) (those q xs)) ≡ or_else (last_that p xs) (pick (p x) (some x) none)
-    at true z e = ap (λ o. or_else o (pick (p x) (some x) none)) e
+        → last_that p (pick b (x ∷ those q xs) (those q xs)) ≡ or_else (last_that p xs) (pick (p x) (Some x) None)
+    at true z e = ap (λ o. or_else o (pick (p x) (Some x) None)) e
     at false z e =
         let n : p x ≡ false = not_true_false (p x) (λ y. true_not_false (q x) (k x y) z) in
-        e ∙ sym (ap (λ b. or_else (last_that p xs) (pick b (some x) none)) n ∙ or_none (last_that p xs))
+        e ∙ sym (ap (λ b. or_else (last_that p xs) (pick b (Some x) None)) n ∙ or_none (last_that p xs))
 
 module _ (node : ℕ) (r : List ℕ) (g : Ring) (p : ℕ) where
   newest_is : (hs : List Held) → newest p (writes_for node r g hs) ≡ wrote (round r g.n) (last_that (is_over node p) hs)
@@ -72,21 +72,21 @@ module _ (node : ℕ) (r : List ℕ) (g : Ring) (p : ℕ) where
     where
       at : (b : Bool) → newest p (writes_for node r g hs) ≡ wrote (round r g.n) (last_that (is_over node p) hs)
           → newest p (map (write_of (round r g.n)) (map entry_of (pick b (h ∷ those (is_of node) hs) (those (is_of node) hs))))
-          ≡ wrote (round r g.n) (or_else (last_that (is_over node p) hs) (pick (both b (spans h.entry.offset h.entry.length p)) (some h) none))
+          ≡ wrote (round r g.n) (or_else (last_that (is_over node p) hs) (pick (both b (spans h.entry.offset h.entry.length p)) (Some h) None))
       at true e =
           let f = round r g.n in
           let t = spans h.entry.offset h.entry.length p in
-          ap (λ b. or_else (newest p (writes_for node r g hs)) (pick b (some (write_of f h.entry)) none)) (covers_entry f p h.entry)
-          ∙ ap (λ o. or_else o (pick t (some (write_of f h.entry)) none)) e
-          ∙ sym (wrote_or f (last_that (is_over node p) hs) (pick t (some h) none) ∙ ap (or_else (wrote f (last_that (is_over node p) hs))) (wrote_pick f t h none))
+          ap (λ b. or_else (newest p (writes_for node r g hs)) (pick b (Some (write_of f h.entry)) None)) (covers_entry f p h.entry)
+          ∙ ap (λ o. or_else o (pick t (Some (write_of f h.entry)) None)) e
+          ∙ sym (wrote_or f (last_that (is_over node p) hs) (pick t (Some h) None) ∙ ap (or_else (wrote f (last_that (is_over node p) hs))) (wrote_pick f t h None))
       at false e = e ∙ ap (wrote (round r g.n)) (sym (or_none (last_that (is_over node p) hs)))
 
   newest_snoc : (hs : List Held) (h : Held)
-      → newest p (writes_for node r g (hs ++ h ∷ [])) ≡ pick (is_over node p h) (some (write_of (round r g.n) h.entry)) (newest p (writes_for node r g hs))
+      → newest p (writes_for node r g (hs ++ h ∷ [])) ≡ pick (is_over node p h) (Some (write_of (round r g.n) h.entry)) (newest p (writes_for node r g hs))
   newest_snoc hs h =
       let f = round r g.n in
       newest_is (hs ++ h ∷ []) ∙ ap (wrote f) (last_snoc (is_over node p) hs h) ∙ wrote_pick f (is_over node p h) h (last_that (is_over node p) hs)
-      ∙ ap (pick (is_over node p h) (some (write_of f h.entry))) (sym (newest_is hs))
+      ∙ ap (pick (is_over node p h) (Some (write_of f h.entry))) (sym (newest_is hs))
 
   -- so writes may be left out that aren't over the place
   pub byte_those : (q : Held → Bool) → ((h : Held) → is_over node p h ≡ true → q h ≡ true) → (other : ℕ) (hs : List Held)
@@ -112,7 +112,7 @@ module _ (node : ℕ) (r : List ℕ) (g : Ring) (p : ℕ) where
 
     module _ (i : ℕ) (s : Seeking held count other i) (z : i ≡ 0 → ⊥) where
       step : byte_over p other (writes_for node r g (take count held))
-          ≡ byte_in p other (pick (is_over node p (get_or held (i - 1) no_held)) (some (write_of (round r g.n) (get_or held (i - 1) no_held).entry)) (newest p (writes_for node r g (take (i - 1) held))))
+          ≡ byte_in p other (pick (is_over node p (get_or held (i - 1) no_held)) (Some (write_of (round r g.n) (get_or held (i - 1) no_held).entry)) (newest p (writes_for node r g (take (i - 1) held))))
       unfolding byte_over
       step =
           let u = s.upto in
@@ -131,10 +131,10 @@ module _ (node : ℕ) (r : List ℕ) (g : Ring) (p : ℕ) where
           record {
             upto = omega arith;
             within = s.within;
-            rest = step ∙ ap (λ b. byte_in p other (pick b (some (write_of (round r g.n) (get_or held (i - 1) no_held).entry)) (newest p (writes_for node r g (take (i - 1) held))))) e;
+            rest = step ∙ ap (λ b. byte_in p other (pick b (Some (write_of (round r g.n) (get_or held (i - 1) no_held).entry)) (newest p (writes_for node r g (take (i - 1) held))))) e;
           }
 
       pub seek_here : is_over node p (get_or held (i - 1) no_held) ≡ true
           → get_or (data_of (round r g.n) (get_or held (i - 1) no_held).entry) (p - (get_or held (i - 1) no_held).entry.offset) 0 ≡ byte_over p other (writes_for node r g (take count held))
       seek_here e =
-          sym (step ∙ ap (λ b. byte_in p other (pick b (some (write_of (round r g.n) (get_or held (i - 1) no_held).entry)) (newest p (writes_for node r g (take (i - 1) held))))) e)
+          sym (step ∙ ap (λ b. byte_in p other (pick b (Some (write_of (round r g.n) (get_or held (i - 1) no_held).entry)) (newest p (writes_for node r g (take (i - 1) held))))) e)

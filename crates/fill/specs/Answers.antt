@@ -1,6 +1,5 @@
 -- What a fill's answer says on paper. Document 01, "Moves", paragraph "Fill", and "When the box says no".
-use Rattle.std.specs.Prelude.{[], ◌∷◌}
-use Rattle.std.proofs.Math.Option.{Option, none, some}
+use Rattle.std.specs.Prelude.{[], ◌∷◌, Option, None, Some}
 use Rattle.reason.specs.declared.Reason.{Reason}
 use Rattle.rules.specs.Outcome.{Said, says, refuses}
 use Rattle.fill.specs.declared.Filled.{Filled}
@@ -14,5 +13,5 @@ said_fill (answer.Refused why) = refuses why
 
 -- a fill's own refusals, in code
 abbrev pub may_of : Option Reason → May
-may_of none = may.Go
-may_of (some why) = may.Refused why
+may_of None = may.Go
+may_of (Some why) = may.Refused why

@@ -1,9 +1,9 @@
 -- From the code's tests, batch and sheet to the outcome of a flush start.
+use Rattle.std.specs.Prelude.{None}
 use Prim.Native.Nat.{ℕ, ◌+◌, ◌≤◌, ◌<◌}
 use mathlib.Core.Path.{◌≡◌, refl, sym, ap, ◌∙◌}
 use mathlib.Core.Bool.{Bool, true, false}
 use mathlib.Core.List.{List, [], ◌∷◌, map}
-use mathlib.Core.Option.{none}
 use native.Mathlib.Omega.{arith}
 use borrow.Author.Tests.{eq-eqb, ne_eqb, lt-ltb, le-ltb}
 use lib.ListN.{length, take, drop, get_or, length-map, length-take, get_or-append}
@@ -86,7 +86,7 @@ module _ (r : List ℕ) (s : State) (g : Ring) (count : ℕ) (held : List Held) 
               record {
                 few = f;
                 long = ap length listed_entries ∙ filled_long most_batch no_entry (map entry_of (batch_of node hs)) (omega arith);
-                some = λ i h. (one i h).valid.bytes;
+                Some = λ i h. (one i h).valid.bytes;
                 most = λ i h. (one i h).valid.most;
                 ends = λ i h. (one i h).valid.end;
               };
@@ -110,7 +110,7 @@ module _ (r : List ℕ) (s : State) (g : Ring) (count : ℕ) (held : List Held) 
         ≡ or (eqb node 0) NodeZero
         (or (ltb 0 s.flush) FlushUnderWay
         (or (both (has_batch node hs) (eqb s.next number_limit)) NoNumber
-        (or (both (has_batch node hs) (ltb (length b) (length (sheet_for node r g hs)))) BadBuffer none)))
+        (or (both (has_batch node hs) (ltb (length b) (length (sheet_for node r g hs)))) BadBuffer None)))
     start_own = rw k.front (own_start r (readable g k.entries) s node b)
 
     pub start_zero : node ≡ 0 → lent_by (refuses NodeZero) s r b ≡ outcome (start_flush node b) r s

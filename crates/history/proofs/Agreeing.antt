@@ -1,9 +1,9 @@
 -- The world and the tale side by side: what is true of them after every history. The steps keep it, the theorems read it off.
+use Rattle.std.specs.Prelude.{Option, None, Some}
 use Prim.Native.Nat.{ℕ, ◌<◌, ◌^◌}
 use mathlib.Core.Path.{◌≡◌}
 use mathlib.Core.Bool.{Bool, true, false}
 use mathlib.Core.List.{List, [], ◌++◌, map}
-use mathlib.Core.Option.{Option, none, some}
 use lib.ListN.{length, get_or}
 use lib.Dec.{eqb}
 use Rattle.layout.specs.Sizes.{file_end}
@@ -37,15 +37,15 @@ pub record SheetOut (sheet : List ℕ) (shore : ℕ → List ℕ) (t : Tale) : T
   -- no other held write has a number of the batch
   pub apart : Each (λ w. among w.number (numbers_of t.batch) ≡ false) rest
   pub own : Each (λ w. among w.number (numbers_of t.batch) ≡ true → is_of node w ≡ true) t.held
-  pub stood : (k : ℕ) → among k t.landed ≡ true → (q : Put) → nth k (puts_in sheet) ≡ some q → Stood (shore node) q
+  pub stood : (k : ℕ) → among k t.landed ≡ true → (q : Put) → nth k (puts_in sheet) ≡ Some q → Stood (shore node) q
 
 abbrev pub OutFits : Option (List ℕ) → (ℕ → List ℕ) → Tale → Type 0
-OutFits none shore t = t.batch ≡ []
-OutFits (some sheet) shore t = SheetOut sheet shore t
+OutFits None shore t = t.batch ≡ []
+OutFits (Some sheet) shore t = SheetOut sheet shore t
 
 abbrev pub is_none : Option (List ℕ) → Bool
-is_none none = true
-is_none (some sheet) = false
+is_none None = true
+is_none (Some sheet) = false
 
 pub record Agrees (files : ℕ → List ℕ) (W : World) (t : Tale) : Type 0 where
   pub stands : Stands W.ring W.state

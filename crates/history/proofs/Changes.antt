@@ -1,9 +1,9 @@
 -- What a call does to the writes of the tale: nothing, one write more, or some that leave.
+use Rattle.std.specs.Prelude.{Option, None, Some}
 use Prim.Native.Nat.{ℕ}
 use mathlib.Core.Path.{◌≡◌, refl, sym, subst}
 use mathlib.Core.Bool.{Bool, true, false}
 use mathlib.Core.List.{List, [], ◌∷◌, ◌++◌}
-use mathlib.Core.Option.{Option, none, some}
 use Rattle.reason.specs.declared.Reason.{Reason}
 use Rattle.layout.specs.declared.Ring.{Ring}
 use Rattle.layout.proofs.Tests.{never}
@@ -49,8 +49,8 @@ module _ (c : Call) (r : List ℕ) (s : State) (t : Tale) (not_made : is_one c (
 
   changes_by : (x : Option Reason) → refusal_of c r s ≡ x → Change s t (tell t c (outcome c r s).said)
   unfolding outcome
-  changes_by none o = rw o (subst (Change s t) (sym (told_done c r s t c.kind refl _ _ _)) (done_changes c.kind refl _ _ _))
-  changes_by (some why) o = rw (o, refused_not why) (stays refl refl)
+  changes_by None o = rw o (subst (Change s t) (sym (told_done c r s t c.kind refl _ _ _)) (done_changes c.kind refl _ _ _))
+  changes_by (Some why) o = rw (o, refused_not why) (stays refl refl)
 
   pub change : Change s t (tell t c (outcome c r s).said)
   change = changes_by (refusal_of c r s) refl

@@ -1,9 +1,9 @@
 -- What a call that isn't refused changes, in the words of the tale: the ring's writes, and the state of each.
+use Rattle.std.specs.Prelude.{Option, Some}
 use Prim.Native.Nat.{ℕ, ◌<◌}
 use mathlib.Core.Path.{◌≡◌, refl, sym, ap, ◌∙◌, subst}
 use mathlib.Core.Bool.{false}
 use mathlib.Core.List.{List, [], ◌∷◌, map}
-use mathlib.Core.Option.{Option, some}
 use native.Mathlib.Omega.{arith}
 use borrow.Author.Tests.{ne_eqb}
 use Rattle.layout.specs.Bytes.{round}
@@ -30,10 +30,10 @@ abbrev pub stands_as : (r : List ℕ) (s : State) (g : Ring) (es : List Entry) �
 stands_as r s g es q k = record { ring = g; entries = es; reading = q; fit = fit_as r s g es q k }
 
 -- the writes that a ring holds, from what is known of its bytes
-some_one : (xs ys : List Write) → ◌≡◌ {A = Option (List Write)} (some xs) (some ys) → xs ≡ ys
+some_one : (xs ys : List Write) → ◌≡◌ {A = Option (List Write)} (Some xs) (Some ys) → xs ≡ ys
 some_one xs ys e = cc
 
-pub holds_as : (r : List ℕ) (g : Ring) (es : List Entry) (ws : List Write) → reading_of r ≡ readable g es → writes_of r ≡ some ws → map (write_of (round r g.n)) es ≡ ws
+pub holds_as : (r : List ℕ) (g : Ring) (es : List Entry) (ws : List Write) → reading_of r ≡ readable g es → writes_of r ≡ Some ws → map (write_of (round r g.n)) es ≡ ws
 holds_as r g es ws q e = some_one _ ws (sym (readable_facts r g es q).writes ∙ e)
 
 -- a number that is given out next is none of those before

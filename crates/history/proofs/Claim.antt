@@ -1,10 +1,10 @@
 -- The fill claim, over every history: for a pin that is live at the fill, bytes fetched from the shore at one moment after the pin, and no restart between, the r bytes are
 -- those of the history's file at the moment of the fill, and r is the lesser of n and what that file has from the offset. Document 01, "Moves", paragraph "Fill".
+use Rattle.std.specs.Prelude.{None}
 use Prim.Native.Nat.{ℕ, ◌+◌, ◌-◌, ◌*◌, ◌≤◌, ◌<◌}
 use mathlib.Core.Path.{◌≡◌, refl, sym, ap, ◌∙◌, subst}
 use mathlib.Core.Bool.{Bool, true, false}
 use mathlib.Core.List.{List, [], ◌∷◌, ◌++◌, map}
-use mathlib.Core.Option.{none}
 use native.Mathlib.Omega.{arith}
 use lib.ListN.{length, get_or}
 use borrow.Author.Tests.{leb-false}
@@ -151,7 +151,7 @@ module _ (r : List ℕ) (makeable : is_makeable (length r) ≡ true) (files : �
       (bytes_some f k.stands.ring.n p.node es (readable_facts W.ring k.stands.ring es k.stands.reading).inside)
 
   -- g is "the lesser of n and what the file has from that offset", and the bytes before g are that file's
-  module _ (offset g : ℕ) (buffer : List ℕ) (granted : refusal_of (fill_read p.number p.node offset g buffer) W.ring W.state ≡ none)
+  module _ (offset g : ℕ) (buffer : List ℕ) (granted : refusal_of (fill_read p.number p.node offset g buffer) W.ring W.state ≡ None)
       (lesser_is : g ≡ lesser (length buffer) (length S - offset)) (fetched : (i : ℕ) → i < g → get_or buffer i 0 ≡ get_or S (offset + i) 0) where
     abbrev pub count : ℕ
     count = fill_count (length buffer) g offset (end_of ws)

@@ -1,9 +1,9 @@
 -- The mission's third demand, over every history: from an empty ring in any buffer of a valid length and any shore files, after any moves that keep the premises.
+use Rattle.std.specs.Prelude.{None, Some}
 use Prim.Native.Nat.{ℕ, ◌+◌, ◌-◌}
 use mathlib.Core.Path.{◌≡◌, refl, sym, ap, ◌∙◌}
 use mathlib.Core.Bool.{true, not}
 use mathlib.Core.List.{List, [], ◌∷◌, ◌++◌, append-nil}
-use mathlib.Core.Option.{none, some}
 use native.Mathlib.Omega.{arith}
 use lib.ListN.{length}
 use lib.Dec.{ltb}
@@ -69,10 +69,10 @@ module _ (r : List ℕ) (makeable : is_makeable (length r) ≡ true) (files : �
     t = tale (begins r files) ms
 
     -- "the ring holds exactly the writes that the history says must be held"
-    pub exactly_held : writes_of (world (begins r files) ms).ring ≡ some (tale (begins r files) ms).held
+    pub exactly_held : writes_of (world (begins r files) ms).ring ≡ Some (tale (begins r files) ms).held
     exactly_held =
         let k = agrees ms fair in
-        (readable_facts W.ring k.stands.ring k.stands.entries k.stands.reading).writes ∙ ap some k.written
+        (readable_facts W.ring k.stands.ring k.stands.entries k.stands.reading).writes ∙ ap Some k.written
 
     -- "the shore file with the ring laid over it is the starting file with all accepted writes laid on in order"
     pub nothing_is_lost : (n : ℕ) → lay ((world (begins r files) ms).shore n) (puts_all (those (is_of n) (tale (begins r files) ms).held))
@@ -82,17 +82,17 @@ module _ (r : List ℕ) (makeable : is_makeable (length r) ≡ true) (files : �
         nothing_lost files W.shore t.accepted t.held t.good k.on_shore (parted_held files W t k) n
 
     -- the same with the ring read from its bytes
-    pub ring_over_shore : (ws : List Write) → writes_of (world (begins r files) ms).ring ≡ some ws
+    pub ring_over_shore : (ws : List Write) → writes_of (world (begins r files) ms).ring ≡ Some ws
         → (n : ℕ) → lay ((world (begins r files) ms).shore n) (puts_all (those (is_of n) ws)) ≡ lay (files n) (puts_all (those (is_of n) (tale (begins r files) ms).accepted))
     ring_over_shore ws e n =
         let same : ws ≡ t.held = same_some ws t.held (sym e ∙ exactly_held) in
         ap (λ xs. lay (W.shore n) (puts_all (those (is_of n) xs))) same ∙ nothing_is_lost n
 
     -- "and 8 and 12 never come"
-    pub never_8 : (c : Call) → refusal_of c W.ring W.state ≡ some Unreadable → ⊥
+    pub never_8 : (c : Call) → refusal_of c W.ring W.state ≡ Some Unreadable → ⊥
     never_8 c = never_unreadable c W.ring W.state (agrees ms fair).stands
 
-    pub never_12 : (c : Call) → refusal_of c W.ring W.state ≡ some StateUnfit → ⊥
+    pub never_12 : (c : Call) → refusal_of c W.ring W.state ≡ Some StateUnfit → ⊥
     never_12 c = never_unfit c W.ring W.state (agrees ms fair).stands
 
     -- the ring has as many slots as at the start
@@ -126,7 +126,7 @@ module _ (r : List ℕ) (makeable : is_makeable (length r) ≡ true) (files : �
   -- ---- tickets: taken by the call c after some moves, and asked after later ones without a restart
 
   module _ (earlier : List Move) (c : Call) (takes : c.kind ≡ takes_ticket) (later : List Move) (fair : AllFair (begins r files) (later ++ call c ∷ earlier)) (calm : NoRestart later)
-      (granted : refusal_of c (world (begins r files) earlier).ring (world (begins r files) earlier).state ≡ none) where
+      (granted : refusal_of c (world (begins r files) earlier).ring (world (begins r files) earlier).state ≡ None) where
     abbrev W₀ : World
     W₀ = world (begins r files) earlier
 

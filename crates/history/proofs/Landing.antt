@@ -1,9 +1,9 @@
 -- A byte of the sheet that is out lands: the world and the tale still agree.
+use Rattle.std.specs.Prelude.{Option, None, Some}
 use Prim.Native.Nat.{ℕ, zero, suc}
 use mathlib.Core.Path.{◌≡◌, refl, sym, ap, ◌∙◌, subst}
 use mathlib.Core.Bool.{Bool, true, false}
 use mathlib.Core.List.{List, [], ◌∷◌, ◌++◌, append-nil}
-use mathlib.Core.Option.{Option, none, some}
 use native.Mathlib.Omega.{arith}
 use borrow.Author.Tests.{eqb-true, eq-eqb}
 use lib.ListN.{get_or}
@@ -24,7 +24,7 @@ use Rattle.history.proofs.Agreeing.{Agrees, Stood, SheetOut, OutFits}
 
 -- ---- a put of a list
 
-nth_touches : (k : ℕ) (qs : List Put) (q : Put) → nth k qs ≡ some q → touches q.place qs ≡ true
+nth_touches : (k : ℕ) (qs : List Put) (q : Put) → nth k qs ≡ Some q → touches q.place qs ≡ true
 nth_touches k [] q e = never (cc)
 nth_touches zero (x ∷ qs) q e = let w : x ≡ q = cc in rw w (ap (λ b. pick b true (touches q.place qs)) (eq-eqb q.place q.place refl))
 nth_touches (suc k) (x ∷ qs) q e = at (eqb x.place q.place) (nth_touches k qs q e)
@@ -33,7 +33,7 @@ nth_touches (suc k) (x ∷ qs) q e = at (eqb x.place q.place) (nth_touches k qs 
     at true z = refl
     at false z = z
 
-nth_each : (P : Put → Type 0) (k : ℕ) (qs : List Put) (q : Put) → Each P qs → nth k qs ≡ some q → P q
+nth_each : (P : Put → Type 0) (k : ℕ) (qs : List Put) (q : Put) → Each P qs → nth k qs ≡ Some q → P q
 nth_each P k [] q o e = never (cc)
 nth_each P zero (x ∷ qs) q o e = let w : x ≡ q = cc in subst P w o.0
 nth_each P (suc k) (x ∷ qs) q o e = nth_each P k qs q o.1 e
@@ -45,14 +45,14 @@ module _ (sheet : List ℕ) (shore : ℕ → List ℕ) (t : Tale) (o : SheetOut 
   pub out_node : node_in sheet ≡ o.node
   out_node = ap node_in whole ∙ sheet_node t.batch o.ends o.node [] o.named
 
-  pub out_touches : (k : ℕ) (q : Put) → nth k (puts_in sheet) ≡ some q → touches q.place (puts_all (waiting t.good o.node t.held)) ≡ true
+  pub out_touches : (k : ℕ) (q : Put) → nth k (puts_in sheet) ≡ Some q → touches q.place (puts_all (waiting t.good o.node t.held)) ≡ true
   out_touches k q e =
       let a : touches q.place (puts_in (sheet_of o.node t.batch ++ [])) ≡ true = nth_touches k (puts_in (sheet_of o.node t.batch ++ [])) q (ap (λ x. nth k (puts_in x)) (sym whole) ∙ e) in
       let b : touches q.place (puts_all t.batch) ≡ true = touch_all t.batch q.place ∙ sym (sheet_touches t.batch o.ends o.node [] q.place) ∙ a in
       ap (λ ws. touches q.place (puts_all ws)) o.front ∙ ap (touches q.place) (puts_append t.batch o.rest)
       ∙ any_append (λ x. eqb x.place q.place) (puts_all t.batch) (puts_all o.rest) ∙ ap (λ x. pick x true (touches q.place (puts_all o.rest))) b
 
-  out_bytes : (k : ℕ) (q : Put) → nth k (puts_in sheet) ≡ some q → q.byte ≡ byte_of t.batch q.place
+  out_bytes : (k : ℕ) (q : Put) → nth k (puts_in sheet) ≡ Some q → q.byte ≡ byte_of t.batch q.place
   out_bytes k q e =
       nth_each (λ x. x.byte ≡ byte_of t.batch x.place) k (puts_in (sheet_of o.node t.batch ++ [])) q (sheet_bytes t.batch o.ends o.node [])
       (ap (λ x. nth k (puts_in x)) (sym whole) ∙ e)
@@ -76,51 +76,51 @@ module _ (sheet : List ℕ) (shore : ℕ → List ℕ) (t : Tale) (o : SheetOut 
     inside = let l = put_length f q.place q.byte in omega arith;
   }
 
-  put_on_law : (q : Put) → put_on shore (node_in sheet) (some q) o.node ≡ put (shore o.node) q.place q.byte
+  put_on_law : (q : Put) → put_on shore (node_in sheet) (Some q) o.node ≡ put (shore o.node) q.place q.byte
   put_on_law q = ap (λ b. pick b (put (shore o.node) q.place q.byte) (shore o.node)) (eq-eqb (node_in sheet) o.node out_node)
 
   -- what is told of the sheet but what has landed of it
-  heard : (shore' : ℕ → List ℕ) (k : ℕ) → ((j : ℕ) → among j (k ∷ t.landed) ≡ true → (x : Put) → nth j (puts_in sheet) ≡ some x → Stood (shore' o.node) x) → SheetOut sheet shore' (hear t k)
+  heard : (shore' : ℕ → List ℕ) (k : ℕ) → ((j : ℕ) → among j (k ∷ t.landed) ≡ true → (x : Put) → nth j (puts_in sheet) ≡ Some x → Stood (shore' o.node) x) → SheetOut sheet shore' (hear t k)
   heard shore' k h =
       record { node = o.node; named = o.named; is = o.is; ends = o.ends; rest = o.rest; front = o.front; apart = o.apart; own = o.own; stood = h }
 
-  pub out_lands : (k : ℕ) (q : Put) → nth k (puts_in sheet) ≡ some q → SheetOut sheet (put_on shore (node_in sheet) (some q)) (hear t k)
-  out_lands k q e = heard (put_on shore (node_in sheet) (some q)) k (λ j z x y. subst (λ f. Stood f x) (sym (put_on_law q)) (at j (eqb k j) refl z x y))
+  pub out_lands : (k : ℕ) (q : Put) → nth k (puts_in sheet) ≡ Some q → SheetOut sheet (put_on shore (node_in sheet) (Some q)) (hear t k)
+  out_lands k q e = heard (put_on shore (node_in sheet) (Some q)) k (λ j z x y. subst (λ f. Stood f x) (sym (put_on_law q)) (at j (eqb k j) refl z x y))
     where
-      at : (j : ℕ) (b : Bool) → eqb k j ≡ b → pick b true (among j t.landed) ≡ true → (x : Put) → nth j (puts_in sheet) ≡ some x → Stood (put (shore o.node) q.place q.byte) x
+      at : (j : ℕ) (b : Bool) → eqb k j ≡ b → pick b true (among j t.landed) ≡ true → (x : Put) → nth j (puts_in sheet) ≡ Some x → Stood (put (shore o.node) q.place q.byte) x
       at j true u z x y =
           let w : q ≡ x = same (sym e ∙ ap (λ i. nth i (puts_in sheet)) (eqb-true k j u) ∙ y) in
           subst (Stood (put (shore o.node) q.place q.byte)) w (stands_now (shore o.node) q)
         where
-          same : ◌≡◌ {A = Option Put} (some q) (some x) → q ≡ x
+          same : ◌≡◌ {A = Option Put} (Some q) (Some x) → q ≡ x
           same h = cc
       at j false u z x y = stands_still (shore o.node) q x (out_bytes k q e) (out_bytes j x y) (o.stood j z x y)
 
   -- an index that is none changes nothing
-  pub out_misses : (k : ℕ) → nth k (puts_in sheet) ≡ none → SheetOut sheet (put_on shore (node_in sheet) none) (hear t k)
-  out_misses k e = heard (put_on shore (node_in sheet) none) k (λ j z x y. at j (eqb k j) refl z x y)
+  pub out_misses : (k : ℕ) → nth k (puts_in sheet) ≡ None → SheetOut sheet (put_on shore (node_in sheet) None) (hear t k)
+  out_misses k e = heard (put_on shore (node_in sheet) None) k (λ j z x y. at j (eqb k j) refl z x y)
     where
-      at : (j : ℕ) (b : Bool) → eqb k j ≡ b → pick b true (among j t.landed) ≡ true → (x : Put) → nth j (puts_in sheet) ≡ some x → Stood (shore o.node) x
-      at j true u z x y = never (let w : none ≡ some x = sym e ∙ ap (λ i. nth i (puts_in sheet)) (eqb-true k j u) ∙ y in cc)
+      at : (j : ℕ) (b : Bool) → eqb k j ≡ b → pick b true (among j t.landed) ≡ true → (x : Put) → nth j (puts_in sheet) ≡ Some x → Stood (shore o.node) x
+      at j true u z x y = never (let w : None ≡ Some x = sym e ∙ ap (λ i. nth i (puts_in sheet)) (eqb-true k j u) ∙ y in cc)
       at j false u z x y = o.stood j z x y
 
 module _ (files : ℕ → List ℕ) (W : World) (t : Tale) (k : Agrees files W t) (j : ℕ) where
   on_shore_by : (sheet : List ℕ) (o : SheetOut sheet W.shore t) (x : Option Put) → nth j (puts_in sheet) ≡ x → OnShore files (put_on W.shore (node_in sheet) x) t.accepted t.held t.good
-  on_shore_by sheet o none e = record { sends = k.on_shore.sends; has = k.on_shore.has }
-  on_shore_by sheet o (some q) e =
+  on_shore_by sheet o None e = record { sends = k.on_shore.sends; has = k.on_shore.has }
+  on_shore_by sheet o (Some q) e =
       rw (out_node sheet W.shore t o) (shore_lands files W.shore t.accepted t.held t.good k.on_shore o.node q (out_touches sheet W.shore t o j q e))
 
   sheet_by_law : (sheet : List ℕ) (o : SheetOut sheet W.shore t) (x : Option Put) → nth j (puts_in sheet) ≡ x → SheetOut sheet (put_on W.shore (node_in sheet) x) (hear t j)
-  sheet_by_law sheet o none e = out_misses sheet W.shore t o j e
-  sheet_by_law sheet o (some q) e = out_lands sheet W.shore t o j q e
+  sheet_by_law sheet o None e = out_misses sheet W.shore t o j e
+  sheet_by_law sheet o (Some q) e = out_lands sheet W.shore t o j q e
 
   on_shore : (out : Option (List ℕ)) → OutFits out W.shore t → OnShore files (landed W.shore out j) t.accepted t.held t.good
-  on_shore none o = record { sends = k.on_shore.sends; has = k.on_shore.has }
-  on_shore (some sheet) o = on_shore_by sheet o (nth j (puts_in sheet)) refl
+  on_shore None o = record { sends = k.on_shore.sends; has = k.on_shore.has }
+  on_shore (Some sheet) o = on_shore_by sheet o (nth j (puts_in sheet)) refl
 
   fits : (out : Option (List ℕ)) → OutFits out W.shore t → OutFits out (landed W.shore out j) (hear t j)
-  fits none o = o
-  fits (some sheet) o = sheet_by_law sheet o (nth j (puts_in sheet)) refl
+  fits None o = o
+  fits (Some sheet) o = sheet_by_law sheet o (nth j (puts_in sheet)) refl
 
   pub agrees_land : Agrees files (record { ring = W.ring; state = W.state; shore = landed W.shore W.out j; out = W.out }) (hear t j)
   agrees_land = record {

@@ -1,9 +1,9 @@
 -- Marks stand at or below what waits: a live pin's mark is at most the number of every held write in its reach that isn't good yet. That is what a fill leans on.
+use Rattle.std.specs.Prelude.{Option, None, Some}
 use Prim.Native.Nat.{ℕ, ◌+◌, ◌≤◌, ◌<◌}
 use mathlib.Core.Path.{◌≡◌, refl, sym, ap, ◌∙◌, subst}
 use mathlib.Core.Bool.{Bool, true, false, not}
 use mathlib.Core.List.{List, [], ◌∷◌, ◌++◌}
-use mathlib.Core.Option.{Option, none, some}
 use native.Mathlib.Omega.{arith}
 use borrow.Author.Tests.{leb-true, leb-false}
 use lib.Dec.{eqb, leb}
@@ -146,8 +146,8 @@ module _ (c : Call) (r : List ℕ) (s : State) (t : Tale) (k : AllMarked s.next 
 
   marked_by : (x : Option Reason) → refusal_of c r s ≡ x → AllMarked (outcome c r s).state.next (tell t c (outcome c r s).said)
   unfolding outcome
-  marked_by none o = rw o (subst (AllMarked _) (sym (told_done c r s t c.kind refl _ _ _)) (done_marked c.kind refl _ _ _))
-  marked_by (some why) o = rw (o, refused_not why) k
+  marked_by None o = rw o (subst (AllMarked _) (sym (told_done c r s t c.kind refl _ _ _)) (done_marked c.kind refl _ _ _))
+  marked_by (Some why) o = rw (o, refused_not why) k
 
 pub tale_marked : (W : World) (ms : List Move) → AllFair W ms → AllMarked (world W ms).state.next (tale W ms)
 tale_marked W [] f = tt

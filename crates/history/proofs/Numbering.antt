@@ -1,9 +1,9 @@
 -- Tickets and pins: a number is taken, and the world and the tale still agree.
+use Rattle.std.specs.Prelude.{Option, None, Some}
 use Prim.Native.Nat.{ℕ, ◌+◌, ◌≤◌, ◌<◌}
 use mathlib.Core.Path.{◌≡◌, refl, sym, ap, ◌∙◌}
 use mathlib.Core.Bool.{true}
 use mathlib.Core.List.{List, [], ◌∷◌, ◌++◌}
-use mathlib.Core.Option.{Option, none, some}
 use native.Mathlib.Omega.{arith}
 use borrow.Author.Tests.{ne_eqb}
 use lib.ListN.{length, get_or, set}
@@ -47,8 +47,8 @@ module _ (files : ℕ → List ℕ) (W : World) (t : Tale) (k : Agrees files W t
   grows ks o = each_by _ _ ks (λ n h. omega arith) o
 
   same_out : (u : Tale) → u.batch ≡ t.batch → u.good ≡ t.good → u.held ≡ t.held → u.landed ≡ t.landed → (out : Option (List ℕ)) → OutFits out W.shore t → OutFits out W.shore u
-  same_out u b g h l none o = b ∙ o
-  same_out u b g h l (some sheet) o =
+  same_out u b g h l None o = b ∙ o
+  same_out u b g h l (Some sheet) o =
       record {
         node = o.node;
         named = o.named;

@@ -1,10 +1,10 @@
 -- Numbers given out between two restarts (of writes, pins, flushes and tickets) rise and are all different; a refused call takes none.
 -- Document 01, "Moves": "Writes, pins, flush starts and tickets each take the next number. A refused call takes none."
+use Rattle.std.specs.Prelude.{Option, None, Some}
 use Prim.Native.Nat.{ℕ, ◌+◌, ◌≤◌, ◌<◌}
 use mathlib.Core.Path.{◌≡◌, refl, sym, ap, ◌∙◌, subst}
 use mathlib.Core.Bool.{Bool, true, false}
 use mathlib.Core.List.{List, [], ◌∷◌}
-use mathlib.Core.Option.{Option, none, some}
 use native.Mathlib.Omega.{arith}
 use Rattle.reason.specs.declared.Reason.{Reason}
 use Rattle.layout.specs.declared.Ring.{Ring}
@@ -28,7 +28,7 @@ Falling next [] = Unit {0}
 Falling next (n ∷ ns) = (n < next) × Falling n ns
 
 -- a refused call changes neither the state nor a byte
-pub refused_same : (c : Call) (r : List ℕ) (s : State) (why : Reason) → refusal_of c r s ≡ some why → outcome c r s ≡ lent_by (refuses why) s r c.buffer
+pub refused_same : (c : Call) (r : List ℕ) (s : State) (why : Reason) → refusal_of c r s ≡ Some why → outcome c r s ≡ lent_by (refuses why) s r c.buffer
 unfolding outcome
 refused_same c r s why o = rw o
 
@@ -103,8 +103,8 @@ module _ (c : Call) (r : List ℕ) (s : State) (t : Tale) (k : Falling s.next t.
 
   step_by : (x : Option Reason) → refusal_of c r s ≡ x → Falling (outcome c r s).state.next (tell t c (outcome c r s).said).given
   unfolding outcome
-  step_by none o = rw o (done_as c.kind refl _ _ _)
-  step_by (some why) o = rw (o, refused_not why) k
+  step_by None o = rw o (done_as c.kind refl _ _ _)
+  step_by (Some why) o = rw (o, refused_not why) k
 
 -- over every history, numbers given out since the last restart rise, all different, and below the next
 pub numbers_rise : (W : World) → (ms : List Move) → AllFair W ms → Falling (world W ms).state.next (tale W ms).given
@@ -139,8 +139,8 @@ module _ (c : Call) (r : List ℕ) (s : State) (not_made : is_one c (makes ∷ [
 
   next_by : (x : Option Reason) → refusal_of c r s ≡ x → s.next ≤ (outcome c r s).state.next
   unfolding outcome
-  next_by none o = rw o (done_next c.kind refl _ _ _)
-  next_by (some why) o = rw o (omega arith)
+  next_by None o = rw o (done_next c.kind refl _ _ _)
+  next_by (Some why) o = rw o (omega arith)
 
   pub next_up : s.next ≤ (outcome c r s).state.next
   next_up = next_by (refusal_of c r s) refl

@@ -1,9 +1,9 @@
 -- Since a pin was given, the ring laid over any shore file seen after it is the history's file: what the pin reaches from its mark on stays.
+use Rattle.std.specs.Prelude.{Option, None, Some}
 use Prim.Native.Nat.{ℕ, ◌<◌}
 use mathlib.Core.Path.{◌≡◌, refl, sym, ap, ◌∙◌, subst}
 use mathlib.Core.Bool.{Bool, true, false}
 use mathlib.Core.List.{List, [], ◌∷◌, ◌++◌}
-use mathlib.Core.Option.{Option, none, some}
 use native.Mathlib.Omega.{arith}
 use borrow.Author.Tests.{eqb-true, ne_eqb}
 use lib.Dec.{eqb}
@@ -115,8 +115,8 @@ module _ (p : Pin) (c : Call) (r : List ℕ) (s : State) (t : Tale) (h : p.numbe
 
   back_by : (x : Option Reason) → refusal_of c r s ≡ x → is_live_in p (tell t c (outcome c r s).said).live ≡ true → is_live_in p t.live ≡ true
   unfolding outcome
-  back_by none o e = done_back c.kind _ _ _ (rw (told_done c r s t c.kind refl _ _ _) at (rw o at e))
-  back_by (some why) o e = rw (o, refused_not why) at e
+  back_by None o e = done_back c.kind _ _ _ (rw (told_done c r s t c.kind refl _ _ _) at (rw o at e))
+  back_by (Some why) o e = rw (o, refused_not why) at e
 
   pub live_back : is_live_in p (tell t c (outcome c r s).said).live ≡ true → is_live_in p t.live ≡ true
   live_back = back_by (refusal_of c r s) refl

@@ -1,9 +1,9 @@
 -- Unpins and good reports, after which what is due leaves: the world and the tale still agree.
+use Rattle.std.specs.Prelude.{Option, None, Some}
 use Prim.Native.Nat.{ℕ, ◌<◌}
 use mathlib.Core.Path.{◌≡◌, refl, sym, ap, ◌∙◌, subst}
 use mathlib.Core.Bool.{true, false, not}
 use mathlib.Core.List.{List, [], ◌++◌, map}
-use mathlib.Core.Option.{Option, none, some}
 use lib.ListN.{length, set}
 use lib.Dec.{eqb, ltb}
 use Rattle.layout.specs.Bytes.{round}
@@ -84,8 +84,8 @@ module _ (files : ℕ → List ℕ) (W : World) (t : Tale) (k : Agrees files W t
     sure_gone = left.past_good r k.stands.ring es k.stands.reading t.good b hs k.told s₁ live pins_left
 
     out_left : (out : Option (List ℕ)) → OutFits out W.shore t → OutFits out W.shore (tell_by unpins c [] t)
-    out_left none o = o
-    out_left (some sheet) o = record {
+    out_left None o = o
+    out_left (Some sheet) o = record {
       node = o.node;
       named = o.named;
       is = o.is;
@@ -118,7 +118,7 @@ module _ (files : ℕ → List ℕ) (W : World) (t : Tale) (k : Agrees files W t
 
   module _ (sheet : List ℕ) (o : SheetOut sheet W.shore t) where
     -- bad: the batch waits again
-    pub agrees_bad : (c : Call) → c.good ≡ false → Agrees files (record { ring = r; state = with_held (with_flush s 0) (map (reported bad) hs); shore = W.shore; out = none }) (tell_by reports c [] t)
+    pub agrees_bad : (c : Call) → c.good ≡ false → Agrees files (record { ring = r; state = with_held (with_flush s 0) (map (reported bad) hs); shore = W.shore; out = None }) (tell_by reports c [] t)
     agrees_bad c z = rw z (record {
       stands = stands_as r _ k.stands.ring es k.stands.reading (stands_bad r s k.stands);
       written = k.written;
@@ -161,7 +161,7 @@ module _ (files : ℕ → List ℕ) (W : World) (t : Tale) (k : Agrees files W t
         ∙ ap (λ ws. went ++ leave all_good t.live ws) k.written
 
     pub agrees_good : (c : Call) → c.good ≡ true → ((k : ℕ) → k < length (puts_in sheet) → among k t.landed ≡ true)
-        → Agrees files (record { ring = head_moved r (slot_after k.stands.ring (slots_left s.pins hs₀)); state = with_held s₀ (staying s.pins hs₀); shore = W.shore; out = none }) (tell_by reports c [] t)
+        → Agrees files (record { ring = head_moved r (slot_after k.stands.ring (slots_left s.pins hs₀)); state = with_held s₀ (staying s.pins hs₀); shore = W.shore; out = None }) (tell_by reports c [] t)
     agrees_good c z whole = rw z (record {
       stands = stands_as _ _ (shrunk k.stands.ring (slots_used (gone_of (goes f all_good t.live) es))) (rest_of (goes f all_good t.live) es)
           (left.past_reads r k.stands.ring es k.stands.reading all_good [] hs₀ moved_good s₀ t.live k.pinned) (stands_good r s k.stands);

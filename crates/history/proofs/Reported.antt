@@ -1,9 +1,9 @@
 -- A batch reported good: it stands on shore whole, and what waits is the rest.
+use Rattle.std.specs.Prelude.{Some}
 use Prim.Native.Nat.{ℕ, suc, ◌<◌}
 use mathlib.Core.Path.{◌≡◌, refl, sym, ap, ◌∙◌, subst}
 use mathlib.Core.Bool.{Bool, true, false, not}
 use mathlib.Core.List.{List, [], ◌∷◌, ◌++◌, append-nil}
-use mathlib.Core.Option.{some}
 use native.Mathlib.Omega.{arith}
 use borrow.Author.Tests.{eqb-true, eq-eqb}
 use lib.ListN.{length, get_or}
@@ -42,7 +42,7 @@ lay_stood f [] o = refl
 lay_stood f (q ∷ qs) o = ap (λ g. lay g qs) (put_stood f q o.0) ∙ lay_stood f qs o.1
 
 -- each put is the one at some place of the list
-each_nth : (P : Put → Type 0) (qs : List Put) → ((k : ℕ) → k < length qs → (q : Put) → nth k qs ≡ some q → P q) → Each P qs
+each_nth : (P : Put → Type 0) (qs : List Put) → ((k : ℕ) → k < length qs → (q : Put) → nth k qs ≡ Some q → P q) → Each P qs
 each_nth P [] h = tt
 each_nth P (q ∷ qs) h = (h 0 (omega arith) q refl, each_nth P qs (λ k l x e. h (suc k) (omega arith) x e))
 

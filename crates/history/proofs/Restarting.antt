@@ -1,9 +1,9 @@
 -- A restart: every entry comes back Unflushed, and the world and the tale still agree.
+use Rattle.std.specs.Prelude.{None}
 use Prim.Native.Nat.{ℕ}
 use mathlib.Core.Path.{◌≡◌, refl, sym, ap, ◌∙◌}
 use mathlib.Core.Bool.{Bool, true, false, not}
 use mathlib.Core.List.{List, [], ◌∷◌, ◌++◌, map}
-use mathlib.Core.Option.{none}
 use borrow.Author.Tests.{eqb-true, eq-eqb}
 use lib.ListN.{take, length-map}
 use lib.Dec.{eqb}
@@ -95,7 +95,7 @@ module _ (files : ℕ → List ℕ) (W : World) (t : Tale) (k : Agrees files W t
       ∙ ap (λ xs. holding xs (listed (with_held (reopened es) (map comes_back es)))) (sym (ap (map entry_of) (back_seen es) ∙ seen_entries [] [] es))
       ∙ held_again (reopened es) (map comes_back es) ∙ back_seen es
 
-  pub agrees_reopen : (c : Call) (vs : List ℕ) → Agrees files (record { ring = W.ring; state = reopened es; shore = W.shore; out = none }) (tell_by reopens c vs t)
+  pub agrees_reopen : (c : Call) (vs : List ℕ) → Agrees files (record { ring = W.ring; state = reopened es; shore = W.shore; out = None }) (tell_by reopens c vs t)
   agrees_reopen c vs = record {
     stands = stands_as W.ring (reopened es) k.stands.ring es k.stands.reading (reopened_stands W.ring k.stands.ring es k.stands.reading);
     written = k.written;

@@ -1,9 +1,9 @@
 -- The ring's size never changes, and the slots in use are those of the writes that must be held.
+use Rattle.std.specs.Prelude.{Option, None, Some}
 use Prim.Native.Nat.{ℕ, ◌+◌, ◌*◌}
 use mathlib.Core.Path.{◌≡◌, refl, sym, ap, ◌∙◌}
 use mathlib.Core.Bool.{Bool, true, false}
 use mathlib.Core.List.{List, [], ◌∷◌, map}
-use mathlib.Core.Option.{Option, none, some}
 use lib.ListN.{length, length-set}
 use Rattle.reason.specs.declared.Reason.{Reason}
 use Rattle.layout.specs.Sizes.{slot_size, head_size, slots_of}
@@ -60,8 +60,8 @@ module _ (c : Call) (r : List ℕ) (s : State) (not_made : is_one c (makes ∷ [
 
   length_by : (x : Option Reason) → refusal_of c r s ≡ x → length (outcome c r s).ring ≡ length r
   unfolding outcome
-  length_by none o = rw o (done_length c.kind refl _ _ _)
-  length_by (some why) o = rw o refl
+  length_by None o = rw o (done_length c.kind refl _ _ _)
+  length_by (Some why) o = rw o refl
 
 pub world_length : (W : World) (ms : List Move) → AllFair W ms → length (world W ms).ring ≡ length W.ring
 world_length W [] f = refl

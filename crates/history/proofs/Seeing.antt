@@ -1,11 +1,11 @@
 -- The held writes as the tale tells them: each entry of the ring, in the state that the numbers reported good and the numbers of the batch give it.
 -- What the calls do to the held writes, and what is asked of them, is said again of the ring's writes and those numbers.
 -- Document 01, "Moves", paragraphs "Pins", "Letting go", "Flush", "Fill" and "Ticket".
+use Rattle.std.specs.Prelude.{Option, None, Some}
 use Prim.Native.Nat.{ℕ, zero, suc, ◌+◌, ◌*◌, ◌<◌}
 use mathlib.Core.Path.{◌≡◌, refl, sym, ◌∙◌, ap}
 use mathlib.Core.Bool.{Bool, true, false, not}
 use mathlib.Core.List.{List, [], ◌∷◌, ◌++◌, map, map-map, map-append, map_congr_left}
-use mathlib.Core.Option.{Option, none, some}
 use native.Mathlib.Omega.{arith}
 use borrow.Author.Tests.{le-leb, eq-eqb, ne_eqb, ltb-true}
 use lib.ListN.{take}
@@ -115,10 +115,10 @@ back_seen es = refl
 -- the value of the lowest, where one more comes to the front
 lower_value : (own : ℕ) (h : Held) (x : Option Held) → h.entry.number < own
     → value_or number_of_held own (lower h x) ≡ pick (leb h.entry.number (value_or number_of_held own x)) h.entry.number (value_or number_of_held own x)
-lower_value own h none l = rw (le-leb h.entry.number own (omega arith))
-lower_value own h (some k) l = at (leb h.entry.number k.entry.number)
+lower_value own h None l = rw (le-leb h.entry.number own (omega arith))
+lower_value own h (Some k) l = at (leb h.entry.number k.entry.number)
   where
-    at : (b : Bool) → value_or number_of_held own (pick b (some h) (some k)) ≡ pick b h.entry.number k.entry.number
+    at : (b : Bool) → value_or number_of_held own (pick b (Some h) (Some k)) ≡ pick b h.entry.number k.entry.number
     at true = refl
     at false = refl
 

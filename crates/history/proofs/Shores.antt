@@ -1,9 +1,9 @@
 -- The shore's files beside the tale: what waits brings each file to what was accepted, and what is held is in it already.
+use Rattle.std.specs.Prelude.{Some}
 use Prim.Native.Nat.{ℕ}
 use mathlib.Core.Path.{◌≡◌, refl, sym, ap, ◌∙◌}
 use mathlib.Core.Bool.{Bool, true, false, not}
 use mathlib.Core.List.{List, [], ◌∷◌, ◌++◌, append_assoc, append-nil}
-use mathlib.Core.Option.{some}
 use borrow.Author.Tests.{eqb-true, eqb-false}
 use lib.Dec.{eqb}
 use Rattle.layout.specs.Bytes.{both}
@@ -117,7 +117,7 @@ module _ (files shore : ℕ → List ℕ) (accepted held : List Write) (good : L
     }
 
   -- a byte lands where what waits will lie
-  pub shore_lands : (node : ℕ) (q : Put) → touches q.place (puts_all (waiting good node held)) ≡ true → OnShore files (put_on shore node (some q)) accepted held good
+  pub shore_lands : (node : ℕ) (q : Put) → touches q.place (puts_all (waiting good node held)) ≡ true → OnShore files (put_on shore node (Some q)) accepted held good
   shore_lands node q t = record { sends = λ n. at n (eqb node n) refl ∙ k.sends n; has = k.has }
     where
       at : (n : ℕ) (b : Bool) → eqb node n ≡ b → lay (pick b (put (shore n) q.place q.byte) (shore n)) (puts_all (waiting good n held)) ≡ lay (shore n) (puts_all (waiting good n held))

@@ -1,9 +1,9 @@
 -- A flush start that sends a sheet: the world and the tale still agree.
+use Rattle.std.specs.Prelude.{Option, None, Some}
 use Prim.Native.Nat.{ℕ, zero, suc, ◌+◌, ◌*◌, ◌≤◌, ◌<◌}
 use mathlib.Core.Path.{◌≡◌, refl, sym, ap, ◌∙◌, subst}
 use mathlib.Core.Bool.{Bool, true, false}
 use mathlib.Core.List.{List, [], ◌∷◌, map}
-use mathlib.Core.Option.{Option, none, some}
 use native.Mathlib.Omega.{arith}
 use borrow.Author.Tests.{eq-eqb, ne_eqb, le-leb}
 use lib.ListN.{length, take, drop, take-append-drop}
@@ -104,8 +104,8 @@ module _ (files : ℕ → List ℕ) (W : World) (t : Tale) (k : Agrees files W t
   s' = with_next (with_flush (with_held s (taken_of c.node hs)) s.next) (s.next + 1)
 
   none_by : (out : Option (List ℕ)) → is_none out ≡ true → OutFits out W.shore t → t.batch ≡ []
-  none_by none e o = o
-  none_by (some x) e o = never (cc)
+  none_by None e o = o
+  none_by (Some x) e o = never (cc)
 
   -- no sheet is out, so no batch is
   none_out : t.batch ≡ []
@@ -168,7 +168,7 @@ module _ (files : ℕ → List ℕ) (W : World) (t : Tale) (k : Agrees files W t
   pub front_sheet : (b : List ℕ) → take (length sheet) (laid_at b 0 sheet) ≡ sheet
   front_sheet b = ap (take (length sheet)) (laid_front b sheet) ∙ take_at sheet (drop (length sheet) b) (length sheet) refl
 
-  pub agrees_start : Agrees files (record { ring = r; state = s'; shore = W.shore; out = some sheet }) t'
+  pub agrees_start : Agrees files (record { ring = r; state = s'; shore = W.shore; out = Some sheet }) t'
   agrees_start = record {
     stands = stands_as r s' k.stands.ring es k.stands.reading (stands_start r s k.stands c.node idle l some_wait);
     written = k.written;

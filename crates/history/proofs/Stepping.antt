@@ -1,9 +1,9 @@
 -- Every move keeps the world and the tale in agreement: a call of any kind, refused or not, and a landing.
+use Rattle.std.specs.Prelude.{Option, None, Some}
 use Prim.Native.Nat.{ℕ, ◌<◌}
 use mathlib.Core.Path.{◌≡◌, refl, sym, ap, ◌∙◌, subst}
 use mathlib.Core.Bool.{Bool, true, false}
 use mathlib.Core.List.{List, [], ◌∷◌}
-use mathlib.Core.Option.{Option, none, some}
 use native.Mathlib.Omega.{arith}
 use borrow.Author.Tests.{eqb-true, ne_eqb, ltb-true, ltb-false}
 use lib.Dec.{eqb, ltb}
@@ -59,7 +59,7 @@ module _ (c : Call) (o : Outcome) (out : Option (List ℕ)) where
   out_kept : is_one c (reopens ∷ []) ≡ false → is_done o.said ≡ false → out_after c o out ≡ out
   out_kept a b = rw (a, b)
 
-  out_ended : is_one c (reopens ∷ []) ≡ false → is_done o.said ≡ true → is_one c (reports ∷ []) ≡ true → out_after c o out ≡ none
+  out_ended : is_one c (reopens ∷ []) ≡ false → is_done o.said ≡ true → is_one c (reports ∷ []) ≡ true → out_after c o out ≡ None
   out_ended a b d = rw (a, b, d)
 
 module _ (files : ℕ → List ℕ) (W : World) (t : Tale) (k : Agrees files W t) (c : Call) (fair : FairCall W t c) where
@@ -95,11 +95,11 @@ module _ (files : ℕ → List ℕ) (W : World) (t : Tale) (k : Agrees files W t
       (out_stays c (lent_by (says vs) s r b) W.out x y z) (told_as kind e vs ∙ f) k
 
   -- a flush is under way exactly while a sheet is out
-  sheet_by_law : (out : Option (List ℕ)) → is_none out ≡ false → (sheet : List ℕ) × (out ≡ some sheet)
-  sheet_by_law none e = never (cc)
-  sheet_by_law (some sheet) e = (sheet, refl)
+  sheet_by_law : (out : Option (List ℕ)) → is_none out ≡ false → (sheet : List ℕ) × (out ≡ Some sheet)
+  sheet_by_law None e = never (cc)
+  sheet_by_law (Some sheet) e = (sheet, refl)
 
-  module _ (o : refusal_of c r s ≡ none) where
+  module _ (o : refusal_of c r s ≡ None) where
     outcome_is : outcome c r s ≡ done_by c.kind c k.stands.ring es hs r s
     unfolding outcome
     outcome_is = rw (o, k.stands.reading)
@@ -112,14 +112,14 @@ module _ (files : ℕ → List ℕ) (W : World) (t : Tale) (k : Agrees files W t
     said_done_law true = refl
     said_done_law false = refl
 
-    went_by : (b : Bool) → c.good ≡ b → c.kind ≡ reports → (sheet : List ℕ) → W.out ≡ some sheet → Goal (reported_as b)
+    went_by : (b : Bool) → c.good ≡ b → c.kind ≡ reports → (sheet : List ℕ) → W.out ≡ Some sheet → Goal (reported_as b)
     went_by true z e sheet x =
-        agrees_as files _ _ W.shore (out_after c (reported_as true) W.out) none (tell t c (says [])) _
+        agrees_as files _ _ W.shore (out_after c (reported_as true) W.out) None (tell t c (says [])) _
         (out_ended c (reported_as true) W.out (rw e) refl (rw e)) (told_as reports e [])
         (agrees_good files W t k sheet (subst (λ u. OutFits u W.shore t) x k.out_fits) c z
         (fair.whole (rw e) z (ap (λ p. is_done p.said) (outcome_is ∙ ap (λ kind. done_by kind c k.stands.ring es hs r s) e) ∙ said_done_law c.good) sheet x))
     went_by false z e sheet x =
-        agrees_as files _ _ W.shore (out_after c (reported_as false) W.out) none (tell t c (says [])) _
+        agrees_as files _ _ W.shore (out_after c (reported_as false) W.out) None (tell t c (says [])) _
         (out_ended c (reported_as false) W.out (rw e) refl (rw e)) (told_as reports e [])
         (agrees_bad files W t k sheet (subst (λ u. OutFits u W.shore t) x k.out_fits) c z)
 
@@ -140,12 +140,12 @@ module _ (files : ℕ → List ℕ) (W : World) (t : Tale) (k : Agrees files W t
         let f = ltb-false 0 s.flush (both_fails _ _ (free c r s k.stands o 5 (omega arith)) (rw e)) in
         let l = numbered c r s k.stands o (rw (e, k.stands.reading) z) in
         agrees_as files r _ W.shore (out_after c (started_as true) W.out) _ (tell t c (started_as true).said) _
-        (rw e (ap some (front_sheet files W t k c real f l z c.buffer))) (told_as starts e _) (agrees_start files W t k c real f l z)
+        (rw e (ap Some (front_sheet files W t k c real f l z c.buffer))) (told_as starts e _) (agrees_start files W t k c real f l z)
 
     granted : (kind : Kind) → c.kind ≡ kind → Goal (done kind)
     granted makes e = never (let w : true ≡ false = (rw e at fair.not_made) in cc)
     granted reopens e =
-        agrees_as files r _ W.shore (out_after c (done reopens) W.out) none (tell t c (done reopens).said) _
+        agrees_as files r _ W.shore (out_after c (done reopens) W.out) None (tell t c (done reopens).said) _
         (rw e) (told_as reopens e (done reopens).said.values) (agrees_reopen files W t k c [])
     granted writes e =
         agrees_as files _ _ W.shore (out_after c (done writes) W.out) W.out (tell t c (done writes).said) _
@@ -174,18 +174,18 @@ module _ (files : ℕ → List ℕ) (W : World) (t : Tale) (k : Agrees files W t
     granted asks_turn e = asks asks_turn e _ c.buffer refl (rw e) (rw e) (rw e)
 
   -- a restart is never refused
-  reopens_granted : c.kind ≡ reopens → refusal_of c r s ≡ none
+  reopens_granted : c.kind ≡ reopens → refusal_of c r s ≡ None
   unfolding refusal_of both
   reopens_granted e = rw (e, k.stands.reading)
 
-  refused : (why : Reason) → refusal_of c r s ≡ some why → Goal (lent_by (refuses why) s r c.buffer)
+  refused : (why : Reason) → refusal_of c r s ≡ Some why → Goal (lent_by (refuses why) s r c.buffer)
   refused why o =
       agrees_as files r s W.shore (out_after c (lent_by (refuses why) s r c.buffer) W.out) W.out (tell t c (refuses why)) t
       (out_kept c (lent_by (refuses why) s r c.buffer) W.out (not_reopen c.kind refl) (refused_not why)) (rw (refused_not why)) k
     where
       not_reopen : (kind : Kind) → c.kind ≡ kind → is_one c (reopens ∷ []) ≡ false
       not_reopen makes e = rw e
-      not_reopen reopens e = never (let w : none ≡ some why = sym (reopens_granted e) ∙ o in cc)
+      not_reopen reopens e = never (let w : None ≡ Some why = sym (reopens_granted e) ∙ o in cc)
       not_reopen writes e = rw e
       not_reopen pins e = rw e
       not_reopen unpins e = rw e
@@ -199,8 +199,8 @@ module _ (files : ℕ → List ℕ) (W : World) (t : Tale) (k : Agrees files W t
 
   step_by : (x : Option Reason) → refusal_of c r s ≡ x → Goal (outcome c r s)
   unfolding outcome
-  step_by none o = rw (o, k.stands.reading) (granted o c.kind refl)
-  step_by (some why) o = rw o (refused why o)
+  step_by None o = rw (o, k.stands.reading) (granted o c.kind refl)
+  step_by (Some why) o = rw o (refused why o)
 
   pub agrees_call : Agrees files (after W (call c)) (told W (call c) t)
   agrees_call = step_by (refusal_of c r s) refl

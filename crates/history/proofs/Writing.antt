@@ -1,9 +1,9 @@
 -- A write that is accepted: the world and the tale still agree.
+use Rattle.std.specs.Prelude.{Option, None, Some}
 use Prim.Native.Nat.{ℕ, ◌+◌, ◌<◌}
 use mathlib.Core.Path.{◌≡◌, sym, ap, ◌∙◌}
 use mathlib.Core.Bool.{Bool, true, false}
 use mathlib.Core.List.{List, [], ◌∷◌, ◌++◌, map, map-append, append_assoc}
-use mathlib.Core.Option.{Option, none, some}
 use native.Mathlib.Omega.{arith}
 use lib.ListN.{length}
 use Rattle.layout.specs.Bytes.{round}
@@ -112,8 +112,8 @@ module _ (files : ℕ → List ℕ) (W : World) (t : Tale) (k : Agrees files W t
       true_not z = absurd (true_not_false _ z new_batch)
 
   fits_by : (out : Option (List ℕ)) → OutFits out W.shore t → OutFits out W.shore t'
-  fits_by none o = o
-  fits_by (some sheet) o = sheet_stays sheet o
+  fits_by None o = o
+  fits_by (Some sheet) o = sheet_stays sheet o
 
   pub agrees_write : Agrees files (record { ring = r'; state = s'; shore = W.shore; out = W.out }) t'
   agrees_write = record {

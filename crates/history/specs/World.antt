@@ -1,8 +1,7 @@
 -- The box and the shore, and what a history of calls, restarts and landings makes of them.
 -- The world after a move is what the definitions give that the calls' promises cite: ring bytes, state record, the sheet's bytes as they stand in
 -- the lent buffer, refusals and all. Document 01, "What the box's cache does".
-use Rattle.std.specs.Prelude.{ℕ, zero, suc, Bool, List, [], ◌∷◌, take, eqb}
-use Rattle.std.proofs.Math.Option.{Option, none, some}
+use Rattle.std.specs.Prelude.{ℕ, zero, suc, Bool, List, [], ◌∷◌, take, eqb, Option, None, Some}
 use Rattle.store.specs.Store.{made}
 use Rattle.state.specs.declared.State.{State}
 use Rattle.state.specs.Lists.{pick, reopened}
@@ -26,7 +25,7 @@ pub data Move : Type 0 where
 
 -- "From an empty ring": one made in a buffer
 abbrev pub begins : List ℕ → (ℕ → List ℕ) → World
-begins r files = record { ring = made r; state = reopened []; shore = files; out = none }
+begins r files = record { ring = made r; state = reopened []; shore = files; out = None }
 
 -- ---- a call
 
@@ -35,16 +34,16 @@ is_done said = eqb said.refusal 0
 
 -- a start that answers number and length has sent so many bytes of the buffer's front
 abbrev pub sent : List ℕ → List ℕ → Option (List ℕ)
-sent [] b = none
-sent (number ∷ []) b = none
-sent (number ∷ length ∷ vs) b = some (take length b)
+sent [] b = None
+sent (number ∷ []) b = None
+sent (number ∷ length ∷ vs) b = Some (take length b)
 
 -- the sheet that is out: a start sends one; a restart, or a report of it, ends it
 abbrev pub out_after : Call → Outcome → Option (List ℕ) → Option (List ℕ)
 out_after c o out =
-    pick (is_one c (reopens ∷ [])) none
+    pick (is_one c (reopens ∷ [])) None
     (pick (is_done o.said)
-    (pick (is_one c (reports ∷ [])) none
+    (pick (is_one c (reports ∷ [])) None
     (pick (is_one c (starts ∷ [])) (or_else (sent o.said.values o.buffer) out) out))
     out)
 
@@ -54,18 +53,18 @@ called W c o = record { ring = o.ring; state = o.state; shore = W.shore; out = o
 -- ---- a landing
 
 abbrev pub nth : ℕ → List Put → Option Put
-nth k [] = none
-nth zero (q ∷ qs) = some q
+nth k [] = None
+nth zero (q ∷ qs) = Some q
 nth (suc k) (q ∷ qs) = nth k qs
 
 abbrev pub put_on : (ℕ → List ℕ) → ℕ → Option Put → ℕ → List ℕ
-put_on shore node none n = shore n
-put_on shore node (some q) n = pick (eqb node n) (put (shore n) q.place q.byte) (shore n)
+put_on shore node None n = shore n
+put_on shore node (Some q) n = pick (eqb node n) (put (shore n) q.place q.byte) (shore n)
 
 -- a byte lands only of the sheet that is out
 abbrev pub landed : (ℕ → List ℕ) → Option (List ℕ) → ℕ → ℕ → List ℕ
-landed shore none k n = shore n
-landed shore (some sheet) k n = put_on shore (node_in sheet) (nth k (puts_in sheet)) n
+landed shore None k n = shore n
+landed shore (Some sheet) k n = put_on shore (node_in sheet) (nth k (puts_in sheet)) n
 
 -- ---- a history: moves, the newest first
 

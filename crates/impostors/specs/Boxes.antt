@@ -1,7 +1,6 @@
 -- A history run with another box in place of ours, and what the mission's third demand asks of it.
 -- `crates/impostors/proofs/Runs.antt` shows that with our own box it is the history of crate `history`.
-use Rattle.std.specs.Prelude.{ℕ, zero, suc, Bool, true, List, [], ◌∷◌, ◌++◌, length, replicate}
-use Rattle.std.proofs.Math.Option.{Option, none, some}
+use Rattle.std.specs.Prelude.{ℕ, zero, suc, Bool, true, List, [], ◌∷◌, ◌++◌, length, replicate, Option, None, Some}
 use Rattle.layout.specs.Bytes.{both}
 use Rattle.walk.specs.Walk.{Write, writes_of}
 use Rattle.state.specs.declared.State.{State}
@@ -42,8 +41,8 @@ below zero = []
 below (suc k) = k ∷ below k
 
 abbrev whole_landed : Option (List ℕ) → List ℕ → Bool
-whole_landed none landed = true
-whole_landed (some sheet) landed = all (λ k. among k landed) (below (length (puts_in sheet)))
+whole_landed None landed = true
+whole_landed (Some sheet) landed = all (λ k. among k landed) (below (length (puts_in sheet)))
 
 abbrev is_fair : World → Tale → Move → Bool
 is_fair W t (call c) = pick (both (is_one c (reports ∷ [])) c.good) (whole_landed W.out t.landed) true
@@ -59,8 +58,8 @@ abbrev pub bare : World
 bare = begins (replicate 4624 0) (λ n. [])
 
 abbrev pub held_in : Option (List Write) → List Write
-held_in none = []
-held_in (some ws) = ws
+held_in None = []
+held_in (Some ws) = ws
 
 -- "the shore file with the ring laid over it"
 abbrev pub seen_file : Box → List Move → ℕ → List ℕ

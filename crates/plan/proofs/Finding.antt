@@ -1,4 +1,5 @@
 -- The plans there are find their ring at every step: the steps before have left its header as it was. And which steps they have.
+use Rattle.std.specs.Prelude.{Some}
 use Prim.Native.Nat.{ℕ, zero, suc, ◌+◌, ◌≤◌, ◌<◌}
 use mathlib.Core.Path.{◌≡◌, refl, sym, ap, ◌∙◌}
 use mathlib.Core.Bool.{Bool, true, false}
@@ -10,7 +11,6 @@ use borrow.Author.Tests.{eq-eqb, ne_eqb}
 use Rattle.layout.specs.Sizes.{largest, slots_of}
 use Rattle.layout.specs.declared.Ring.{Ring}
 use Rattle.walk.specs.declared.Entry.{Entry}
-use Rattle.walk.specs.declared.Header.TheVariants.{Good}
 use Rattle.walk.specs.Header.{header_of}
 use Rattle.walk.proofs.Rules.{header_use}
 use Rattle.store.specs.Steps.{Step, run, cut}
@@ -27,7 +27,7 @@ one_at_most : (b : Bool) (k : ℕ) → suc k < unless_none b 1 + 0 → ⊥
 one_at_most true k l = omega arith
 one_at_most false k l = omega arith
 
-module _ (r : List ℕ) (g : Ring) (h : header_of r ≡ Good g) where
+module _ (r : List ℕ) (g : Ring) (h : header_of r ≡ Some g) where
   -- ---- the head moves on to a slot
 
   module _ (slot : ℕ) (bs : List ℕ) where
@@ -54,7 +54,7 @@ module _ (r : List ℕ) (g : Ring) (h : header_of r ≡ Good g) where
     entry_steps = rw (eq-eqb g.head g.head refl, ne_eqb e.number 0 numbered)
 
     module _ (slot : e.slot ≡ tail_of g) (bytes : e.length ≡ length bs) (most : e.length ≤ largest) (room : g.used + slots_of e.length < g.n) where
-      header_stays : (k : ℕ) → k < length xs → header_of (run r (take k xs)) ≡ Good g
+      header_stays : (k : ℕ) → k < length xs → header_of (run r (take k xs)) ≡ Some g
       header_stays k l =
           ap header_of (sym (cut_none xs r k)) ∙ sym (alike_headed r (cut r xs k []) ((store_hidden r g e bs h slot bytes room).at k l [])) ∙ h
 

@@ -1,4 +1,7 @@
 -- A plan step by step: which step is the head byte's and which the entry's, and that steps which all find their ring are a run.
+use Rattle.std.specs.Prelude.{Result}
+use Rattle.reason.specs.declared.Reason.{Reason}
+use Rattle.plan.specs.declared.Span.{Span}
 use Prim.Native.Nat.{ℕ, zero, suc, ◌+◌, ◌-◌, ◌≤◌, ◌<◌}
 use mathlib.Core.Path.{◌≡◌, refl, sym, ap, ◌∙◌}
 use mathlib.Core.Bool.{Bool, true, false}
@@ -20,7 +23,6 @@ use Rattle.store.specs.Storing.{store_steps, store_step, tail_step, head_step, u
 use Rattle.store.proofs.Steps.{run_append, step_length, store_count}
 use Rattle.store.proofs.Storing.{store_slot, store_tail}
 use Rattle.plan.specs.declared.Plan.{Plan}
-use Rattle.plan.specs.declared.Stepped.{Stepped}
 use Rattle.plan.specs.Plan.{plan_steps, unless_none, head_count, step_count, head_waits, store_waits, step_waits, plan_step, step_ring, span_of, pick_stepped, step_answer, stepped}
 
 -- ---- how many steps there are
@@ -112,7 +114,7 @@ module _ (p : Plan) (bs : List ℕ) (i : ℕ) (r : List ℕ) (b : Bool) (x : Ste
   answer_by = sym (rw (e, same))
 
 -- what the code does in a step of the entry's, by the count of head steps that it found
-module _ (p : Plan) (bs : List ℕ) (i : ℕ) (r : List ℕ) (h : head_count p ≤ i) (l : i < step_count p) (heads : ℕ) (e : heads ≡ head_count p) (said : Stepped) (out : List ℕ) where
+module _ (p : Plan) (bs : List ℕ) (i : ℕ) (r : List ℕ) (h : head_count p ≤ i) (l : i < step_count p) (heads : ℕ) (e : heads ≡ head_count p) (said : Result Span Reason) (out : List ℕ) where
   pub entry_made : said ≡ pick_stepped (store_waits p (length bs) (header_of r)) (span_of (store_step p.n p.entry [] (i - heads)))
       → out ≡ pick_bytes (store_waits p (length bs) (header_of r)) (run_step r (store_step p.n p.entry bs (i - heads))) r → (said ≡ step_answer p bs i r) × (out ≡ step_ring p bs i r)
   entry_made es eo =

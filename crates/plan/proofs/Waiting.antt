@@ -1,4 +1,5 @@
 -- Whether a ring is the one that a step waits for: a test holds where its facts do, and only there.
+use Rattle.std.specs.Prelude.{None, Option, Some, Ok, Err}
 use Prim.Native.Nat.{ℕ, ◌+◌, ◌≤◌, ◌<◌}
 use mathlib.Core.Path.{◌≡◌, refl, sym, ap, ◌∙◌}
 use mathlib.Core.Bool.{Bool, true, false}
@@ -12,15 +13,12 @@ use Rattle.layout.specs.Sizes.{largest, slots_of}
 use Rattle.layout.specs.Bytes.{both, Sized}
 use Rattle.layout.specs.declared.Ring.{Ring}
 use Rattle.layout.proofs.Tests.{never, both_left, both_right, not_true_false}
-use Rattle.walk.specs.declared.Header.{Header}
-use Rattle.walk.specs.declared.Header.TheVariants.{Good, Bad}
 use Rattle.walk.specs.Header.{header_of}
 use Rattle.walk.proofs.Rules.{header_use}
 use Rattle.store.specs.Store.{pick_bytes}
 use Rattle.ring.specs.Ring.{tail_of}
 use Rattle.plan.specs.declared.Plan.{Plan}
 use Rattle.plan.specs.declared.Span.{Span}
-use Rattle.plan.specs.declared.Stepped.TheVariants.{Stored, Refused}
 use Rattle.plan.specs.Plan.{head_waits, store_waits, pick_stepped}
 
 -- `head_waits`, as facts
@@ -37,7 +35,7 @@ pub record StoreReady (p : Plan) (len : ℕ) (g : Ring) : Type 0 where
   pub tail : tail_of g ≡ p.entry.slot
   pub room : g.used + slots_of p.entry.length < g.n
 
-module _ (p : Plan) (h : Header) (g : Ring) (e : h ≡ Good g) where
+module _ (p : Plan) (h : Option Ring) (g : Ring) (e : h ≡ Some g) where
   pub head_yes : HeadReady p g → head_waits p h ≡ true
   unfolding head_waits both
   head_yes o = rw (e, eq-eqb _ _ o.slots, eq-eqb _ _ o.from, lt-ltb _ _ o.below)
@@ -76,21 +74,21 @@ module _ (p : Plan) (h : Header) (g : Ring) (e : h ≡ Good g) where
     store_no k = sym (not_true_false _ (λ t. k (store_sound t)))
 
 -- bytes without a header
-pub head_bad : (p : Plan) (h : Header) → h ≡ Bad → false ≡ head_waits p h
+pub head_bad : (p : Plan) (h : Option Ring) → h ≡ None → false ≡ head_waits p h
 unfolding head_waits
 head_bad p h e = sym (ap (head_waits p) e)
 
-pub store_bad : (p : Plan) (len : ℕ) (h : Header) → h ≡ Bad → false ≡ store_waits p len h
+pub store_bad : (p : Plan) (len : ℕ) (h : Option Ring) → h ≡ None → false ≡ store_waits p len h
 unfolding store_waits
 store_bad p len h e = sym (ap (store_waits p len) e)
 
 -- ---- what a step that finds its ring may count on
 
 module _ (p : Plan) (r : List ℕ) where
-  head_safe_by : (h : Header) → header_of r ≡ h → head_waits p h ≡ true → (p.head < 256) × (2 < length r)
-  head_safe_by Bad e t = never (let w : false ≡ true = head_bad p Bad refl ∙ t in cc)
-  head_safe_by (Good g) e t =
-      let o = head_sound p (Good g) g refl t in
+  head_safe_by : (h : Option Ring) → header_of r ≡ h → head_waits p h ≡ true → (p.head < 256) × (2 < length r)
+  head_safe_by None e t = never (let w : false ≡ true = head_bad p None refl ∙ t in cc)
+  head_safe_by (Some g) e t =
+      let o = head_sound p (Some g) g refl t in
       let z = (header_use r g e).sized in
       let n = o.slots in
       let b = o.below in
@@ -109,10 +107,10 @@ module _ (p : Plan) (r : List ℕ) where
     pub most : p.entry.length ≤ largest
 
   module _ (len : ℕ) where
-    store_safe_by : (h : Header) → header_of r ≡ h → store_waits p len h ≡ true → Safe len
-    store_safe_by Bad e t = never (let w : false ≡ true = store_bad p len Bad refl ∙ t in cc)
-    store_safe_by (Good g) e t =
-        let o = store_sound p (Good g) g refl len t in
+    store_safe_by : (h : Option Ring) → header_of r ≡ h → store_waits p len h ≡ true → Safe len
+    store_safe_by None e t = never (let w : false ≡ true = store_bad p len None refl ∙ t in cc)
+    store_safe_by (Some g) e t =
+        let o = store_sound p (Some g) g refl len t in
         let k = header_use r g e in
         let h = k.head in
         let s : p.entry.slot < g.n = rw (← o.tail) (mod-lt (g.head + g.used) (omega arith)) in
@@ -123,10 +121,10 @@ module _ (p : Plan) (r : List ℕ) where
 
 -- ---- the one or the other
 
-pub said_yes : (b : Bool) (s : Span) → b ≡ true → Stored s ≡ pick_stepped b s
+pub said_yes : (b : Bool) (s : Span) → b ≡ true → Ok s ≡ pick_stepped b s
 said_yes b s e = sym (ap (λ x. pick_stepped x s) e)
 
-pub said_no : (b : Bool) (s : Span) → b ≡ false → Refused StateUnfit ≡ pick_stepped b s
+pub said_no : (b : Bool) (s : Span) → b ≡ false → Err StateUnfit ≡ pick_stepped b s
 said_no b s e = sym (ap (λ x. pick_stepped x s) e)
 
 pub left_yes : (b : Bool) (r r' : List ℕ) → b ≡ true → r ≡ pick_bytes b r r'

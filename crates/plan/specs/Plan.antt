@@ -1,12 +1,11 @@
 -- A plan: the stores that a call makes in a ring, as numbers; which steps it has, and what one of them does to a ring. Document 02, Q-8.
-use Rattle.std.specs.Prelude.{ℕ, zero, suc, ◌+◌, Bool, true, false, List, [], ◌∷◌, ◌++◌, length, get_or, eqb, ltb, leb}
+use Rattle.std.specs.Prelude.{ℕ, zero, suc, ◌+◌, Bool, true, false, List, [], ◌∷◌, ◌++◌, length, get_or, eqb, ltb, leb, Option, None, Some, Result, Ok, Err}
+use Rattle.reason.specs.declared.Reason.{Reason}
 use Rattle.reason.specs.declared.Reason.TheVariants.{StateUnfit}
 use Rattle.layout.specs.Sizes.{slot_size, largest, slots_of}
 use Rattle.layout.specs.Bytes.{both}
 use Rattle.layout.specs.declared.Ring.{Ring}
 use Rattle.walk.specs.declared.Entry.{Entry}
-use Rattle.walk.specs.declared.Header.{Header}
-use Rattle.walk.specs.declared.Header.TheVariants.{Good, Bad}
 use Rattle.walk.specs.Header.{header_of}
 use Rattle.walk.specs.Walk.{no_entry}
 use Rattle.store.specs.Steps.{Step, in_slot, one_byte, place_of, run_step}
@@ -15,8 +14,6 @@ use Rattle.store.specs.Storing.{store_steps, tail_step, head_step, unless_same}
 use Rattle.ring.specs.Ring.{tail_of}
 use Rattle.plan.specs.declared.Plan.{Plan}
 use Rattle.plan.specs.declared.Span.{Span}
-use Rattle.plan.specs.declared.Stepped.{Stepped}
-use Rattle.plan.specs.declared.Stepped.TheVariants.{Stored, Refused}
 
 -- ---- its steps
 
@@ -56,14 +53,14 @@ step_count p = head_count p + unless_none (eqb p.entry.number 0) (slots_of p.ent
 -- ---- whether the ring, as its header tells it, is the one that a step waits for
 
 -- the head byte still is the one before
-unfoldable pub head_waits : Plan → Header → Bool
-head_waits p Bad = false
-head_waits p (Good g) = both (eqb g.n p.n) (both (eqb g.head p.from) (ltb p.head p.n))
+unfoldable pub head_waits : Plan → Option Ring → Bool
+head_waits p None = false
+head_waits p (Some g) = both (eqb g.n p.n) (both (eqb g.head p.from) (ltb p.head p.n))
 
 -- the entry has those bytes, starts at the tail, and finds its slots free
-unfoldable pub store_waits : Plan → ℕ → Header → Bool
-store_waits p len Bad = false
-store_waits p len (Good g) =
+unfoldable pub store_waits : Plan → ℕ → Option Ring → Bool
+store_waits p len None = false
+store_waits p len (Some g) =
     both (eqb g.n p.n)
     (both (eqb len p.entry.length)
     (both (leb p.entry.length largest)
@@ -91,11 +88,11 @@ abbrev pub span_of : Step → Span
 span_of (in_slot k bs) = record { place = place_of k; length = slot_size }
 span_of (one_byte p v) = record { place = p; length = 1 }
 
-abbrev pub pick_stepped : Bool → Span → Stepped
-pick_stepped true s = Stored s
-pick_stepped false s = Refused StateUnfit
+abbrev pub pick_stepped : Bool → Span → Result Span Reason
+pick_stepped true s = Ok s
+pick_stepped false s = Err StateUnfit
 
-unfoldable pub step_answer : Plan → List ℕ → ℕ → List ℕ → Stepped
+unfoldable pub step_answer : Plan → List ℕ → ℕ → List ℕ → Result Span Reason
 step_answer p bs i r = pick_stepped (step_waits p r bs i) (span_of (plan_step p bs i))
 
 -- the first k steps, one after the other

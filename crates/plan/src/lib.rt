@@ -24,7 +24,7 @@ ghost use Rattle.plan.specs.Plan.{
 use layout::Ring;
 use reason::Reason;
 use store::step;
-use walk::{Entry, Header};
+use walk::Entry;
 
 // First the head byte, where the head moves; then the entry, where there is one.
 #[repr(C)]
@@ -44,13 +44,6 @@ pub struct Plan {
 pub struct Span {
     pub place: usize,
     pub length: usize,
-}
-
-// What a step stored; the only refusal is StateUnfit, of a plan that doesn't fit the ring or has no such step.
-#[derive(Clone, Copy)]
-pub enum Stepped {
-    Stored(Span),
-    Refused(Reason),
 }
 
 // The plan of a call that stores nothing.
@@ -92,8 +85,7 @@ pub fn count(plan: Plan) -> usize
 fn head_waits(bytes: &[u8], plan: Plan) -> bool
     ensures { result ≡ head_waits plan (header_of bytes.now) }
 {
-    let header = walk::header_of(bytes);
-    let Header::Good(ring) = header else {
+    let Some(ring) = walk::header_of(bytes) else {
         return false;
     };
     if ring.n != plan.n {
@@ -113,8 +105,7 @@ fn store_waits(bytes: &[u8], plan: Plan, src: &[u8]) -> bool
     ensures { result ≡ store_waits plan (length src.now) (header_of bytes.now) }
 {
     let entry = plan.entry;
-    let header = walk::header_of(bytes);
-    let Header::Good(ring) = header else {
+    let Some(ring) = walk::header_of(bytes) else {
         return false;
     };
     if ring.n != plan.n {
@@ -136,15 +127,15 @@ fn store_waits(bytes: &[u8], plan: Plan, src: &[u8]) -> bool
 }
 
 // Stores the head byte.
-fn step_head(bytes: &mut [u8], plan: Plan) -> Stepped
+fn step_head(bytes: &mut [u8], plan: Plan) -> Result<Span, Reason>
     ensures answer { result ≡ pick_stepped (head_waits plan (header_of bytes.old)) (span_of (head_step plan.head)) }
     ensures bytes { bytes.new ≡ pick_bytes (head_waits plan (header_of bytes.old)) (run_step bytes.old (head_step plan.head)) bytes.old }
 {
     if !head_waits(bytes, plan) {
-        return Stepped::Refused(Reason::StateUnfit);
+        return Err(Reason::StateUnfit);
     }
     step::put_byte(bytes, 2, plan.head as u8);
-    Stepped::Stored(Span {
+    Ok(Span {
         place: 2,
         length: 1,
     })
@@ -169,7 +160,7 @@ fn span_at(n: usize, entry: Entry, j: usize) -> Span
 }
 
 // Makes step j of storing the entry.
-fn step_entry(bytes: &mut [u8], plan: Plan, src: &[u8], j: usize) -> Stepped
+fn step_entry(bytes: &mut [u8], plan: Plan, src: &[u8], j: usize) -> Result<Span, Reason>
     requires { j ≤ slots_of plan.entry.length }
     ensures answer { result ≡ pick_stepped (store_waits plan (length src.now) (header_of bytes.old)) (span_of (store_step plan.n plan.entry [] j)) }
     ensures bytes { bytes.new ≡ pick_bytes (store_waits plan (length src.now) (header_of bytes.old)) (run_step bytes.old (store_step plan.n plan.entry src.now j)) bytes.old }
@@ -177,14 +168,14 @@ fn step_entry(bytes: &mut [u8], plan: Plan, src: &[u8], j: usize) -> Stepped
     let entry = plan.entry;
     let n = plan.n;
     if !store_waits(bytes, plan, src) {
-        return Stepped::Refused(Reason::StateUnfit);
+        return Err(Reason::StateUnfit);
     }
     step::store_step(bytes, n, entry, src, j);
-    Stepped::Stored(span_at(n, entry, j))
+    Ok(span_at(n, entry, j))
 }
 
 // Makes step i of a plan, counted from 0: one store.
-pub fn make_step(bytes: &mut [u8], plan: Plan, src: &[u8], i: usize) -> Stepped
+pub fn make_step(bytes: &mut [u8], plan: Plan, src: &[u8], i: usize) -> Result<Span, Reason>
     ensures answer { result ≡ step_answer plan src.now i bytes.old }
     ensures bytes { bytes.new ≡ step_ring plan src.now i bytes.old }
 {
@@ -193,7 +184,7 @@ pub fn make_step(bytes: &mut [u8], plan: Plan, src: &[u8], i: usize) -> Stepped
         return step_head(bytes, plan);
     }
     if count(plan) <= i {
-        return Stepped::Refused(Reason::StateUnfit);
+        return Err(Reason::StateUnfit);
     }
     step_entry(bytes, plan, src, i - heads)
 }
@@ -202,10 +193,9 @@ pub fn make_step(bytes: &mut [u8], plan: Plan, src: &[u8], i: usize) -> Stepped
 pub fn run_to(bytes: &mut [u8], plan: Plan, src: &[u8], steps: usize)
     ensures { bytes.new ≡ stepped plan src.now steps bytes.old }
 {
-    let mut i = 0;
-    while i < steps {
-        make_step(bytes, plan, src, i);
-        i += 1;
+    for i in 0..steps {
+        // One that doesn't fit stores nothing.
+        let _ = make_step(bytes, plan, src, i);
     }
 }
 

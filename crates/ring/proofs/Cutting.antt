@@ -1,4 +1,5 @@
 -- What a cut leaves: before a part's last step a ring that differs in free slots only, and after it the ring with that part done.
+use Rattle.std.specs.Prelude.{Some}
 use Prim.Native.Nat.{ℕ, zero, suc, ◌+◌, ◌-◌, ◌*◌, ◌/◌, ◌%◌, ◌≤◌, ◌<◌}
 use mathlib.Core.Path.{◌≡◌, refl, sym, ap, ◌∙◌, subst}
 use mathlib.Core.Bool.{Bool, true, false}
@@ -16,7 +17,6 @@ use Rattle.layout.proofs.Views.{slot_start}
 use Rattle.layout.proofs.Tests.{lt_or_le}
 use Rattle.layout.proofs.Puts.{put_place}
 use Rattle.walk.specs.declared.Entry.{Entry}
-use Rattle.walk.specs.declared.Header.TheVariants.{Good}
 use Rattle.walk.specs.Header.{header_of}
 use Rattle.walk.specs.Walk.{readable, reading_of}
 use Rattle.walk.proofs.Readings.{reading_sound}
@@ -39,7 +39,7 @@ at_tail r g xs slot some e =
 
 -- ---- the parts there are: an entry's slots with the tail byte, the head byte, any one byte
 
-pub store_hidden : (r : List ℕ) (g : Ring) (e : Entry) (bs : List ℕ) → header_of r ≡ Good g → e.slot ≡ tail_of g → e.length ≡ length bs → g.used + slots_of e.length < g.n
+pub store_hidden : (r : List ℕ) (g : Ring) (e : Entry) (bs : List ℕ) → header_of r ≡ Some g → e.slot ≡ tail_of g → e.length ≡ length bs → g.used + slots_of e.length < g.n
     → Hidden r (store_steps g.n e bs)
 store_hidden r g e bs h slot l room =
     let some : 0 < g.n = omega arith in

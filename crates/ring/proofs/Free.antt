@@ -1,8 +1,8 @@
 -- Two rings that differ only in free slots.
+use Rattle.std.specs.Prelude.{None, Option, Some}
 use Prim.Native.Nat.{ℕ, ◌+◌, ◌*◌, ◌≤◌, ◌<◌}
 use mathlib.Core.Path.{◌≡◌, refl, sym, ap, ◌∙◌}
 use mathlib.Core.List.{List}
-use mathlib.Core.Option.{some}
 use native.Mathlib.Omega.{arith}
 use lib.ListN.{length}
 use Rattle.layout.specs.Sizes.{header_size, slot_size, span_of}
@@ -10,8 +10,6 @@ use Rattle.layout.specs.Bytes.{flat, round, put}
 use Rattle.layout.specs.declared.Ring.{Ring}
 use Rattle.layout.proofs.Views.{same_part, same_back, zeros_same}
 use Rattle.layout.proofs.Puts.{length_put, put_header, put_old}
-use Rattle.walk.specs.declared.Header.{Header}
-use Rattle.walk.specs.declared.Header.TheVariants.{Good, Bad}
 use Rattle.walk.specs.Header.{is_header, header_of}
 use Rattle.walk.specs.Walk.{Reading, readable, unreadable, reads, reading_by, reading_of, writes_by, writes_of}
 use Rattle.walk.proofs.Walks.{walk_same}
@@ -34,9 +32,9 @@ module _ (r r' : List ℕ) (k : Alike r r') where
         zeros_same 12 (same_part k.header 4 12 (omega arith)),
       )
 
-  by_header : (h : Header) → header_of r ≡ h → reading_by r h ≡ reading_by r' h
-  by_header Bad e = refl
-  by_header (Good g) e =
+  by_header : (h : Option Ring) → header_of r ≡ h → reading_by r h ≡ reading_by r' h
+  by_header None e = refl
+  by_header (Some g) e =
       ap (reads g) (walk_same g.n (round r g.n) g.head (round r' g.n) g.head g.used 0 (record { slot = refl; bytes = k.slots g e }))
 
   pub alike_reading : reading_of r ≡ reading_of r'
@@ -47,13 +45,13 @@ module _ (r r' : List ℕ) (k : Alike r r') where
   by_reading unreadable e = refl
   by_reading (readable g es) e =
       let w = reading_sound r g es e in
-      ap some (writes_same r r' g.n (omega (arith, w.headed.sized.low)) w.chain (record { slot = refl; bytes = k.slots g (reading_header w) }))
+      ap Some (writes_same r r' g.n (omega (arith, w.headed.sized.low)) w.chain (record { slot = refl; bytes = k.slots g (reading_header w) }))
 
   pub alike_writing : writes_of r ≡ writes_of r'
   alike_writing = by_reading (reading_of r) refl ∙ ap (writes_by r') alike_reading
 
 -- whatever is stored behind the tail, short of the head, leaves an alike ring
-pub free_alike : (r : List ℕ) (g : Ring) (xs : List ℕ) → header_of r ≡ Good g → g.used * slot_size + length xs ≤ span_of g.n
+pub free_alike : (r : List ℕ) (g : Ring) (xs : List ℕ) → header_of r ≡ Some g → g.used * slot_size + length xs ≤ span_of g.n
     → Alike r (put r g.n ((g.head + g.used) * slot_size) xs)
 free_alike r g xs h room =
     let p = (g.head + g.used) * slot_size in

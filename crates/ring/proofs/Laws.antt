@@ -1,10 +1,10 @@
 -- The ring's laws: what every layer above may cite of a ring's bytes, and all that it needs to.
 -- `reading_of r ≡ readable g es` says that r is a ring with header g and entries es, oldest first;
 -- `writes_of r` are the writes that it holds, with their bytes.
+use Rattle.std.specs.Prelude.{Some}
 use Prim.Native.Nat.{ℕ, ◌+◌, ◌*◌, ◌≤◌, ◌<◌}
 use mathlib.Core.Path.{◌≡◌, ap, ◌∙◌}
 use mathlib.Core.List.{List, [], ◌∷◌, ◌++◌, map}
-use mathlib.Core.Option.{some}
 use lib.ListN.{length}
 use Rattle.layout.specs.Sizes.{slot_size, span_of, most_entries}
 use Rattle.layout.specs.Bytes.{round, Sized, put}
@@ -32,7 +32,7 @@ pub record Facts (r : List ℕ) (g : Ring) (es : List Entry) : Type 0 where
   -- every entry is valid, and the numbers rise from 1 or more
   pub rising : Rising 0 es
   pub inside : AllInRing g.n es
-  pub writes : writes_of r ≡ some (map (write_of (round r g.n)) es)
+  pub writes : writes_of r ≡ Some (map (write_of (round r g.n)) es)
 
 module _ (r : List ℕ) (g : Ring) (es : List Entry) (q : reading_of r ≡ readable g es) where
   pub readable_facts : Facts r g es
@@ -76,8 +76,8 @@ module _ (r : List ℕ) (g : Ring) (es : List Entry) (e : Entry) (bs : List ℕ)
   pub stored_reads : reading_of (stored r g.n e bs) ≡ readable (grown g e) (es ++ e ∷ [])
   stored_reads = reading_true (next_readable r g es e bs (reading_sound r g es q) w)
 
-  pub stored_holds : writes_of (stored r g.n e bs) ≡ some (map (write_of (round r g.n)) es ++ written e bs ∷ [])
-  stored_holds = ap (writes_by (stored r g.n e bs)) stored_reads ∙ ap some (next_writes r g es e bs (reading_sound r g es q) w)
+  pub stored_holds : writes_of (stored r g.n e bs) ≡ Some (map (write_of (round r g.n)) es ++ written e bs ∷ [])
+  stored_holds = ap (writes_by (stored r g.n e bs)) stored_reads ∙ ap Some (next_writes r g es e bs (reading_sound r g es q) w)
 
 -- ---- moving the head: past the first entries, the rest is read, with the same bytes
 
@@ -89,5 +89,5 @@ module _ (r : List ℕ) (g : Ring) (xs ks : List Entry) (q : reading_of r ≡ re
   pub moved_reads : reading_of past ≡ readable (shrunk g (slots_used xs)) ks
   moved_reads = reading_true (moved_readable r g xs ks (reading_sound r g (xs ++ ks) q))
 
-  pub moved_holds : writes_of past ≡ some (map (write_of (round r g.n)) ks)
-  moved_holds = ap (writes_by past) moved_reads ∙ ap some (moved_writes r g xs ks (reading_sound r g (xs ++ ks) q))
+  pub moved_holds : writes_of past ≡ Some (map (write_of (round r g.n)) ks)
+  moved_holds = ap (writes_by past) moved_reads ∙ ap Some (moved_writes r g xs ks (reading_sound r g (xs ++ ks) q))

@@ -1,9 +1,9 @@
 -- Several entries stored one behind the other: after a cut the ring holds the writes before, and each new one exactly if its tail byte was stored.
+use Rattle.std.specs.Prelude.{Option, Some}
 use Prim.Native.Nat.{ℕ, ◌+◌, ◌-◌}
 use mathlib.Core.Path.{◌≡◌, refl, sym, ap, ◌∙◌, subst}
 use mathlib.Core.Bool.{Bool, true, false}
 use mathlib.Core.List.{List, [], ◌∷◌, ◌++◌, map, append_assoc, append-nil}
-use mathlib.Core.Option.{Option, some}
 use lib.Dec.{leb}
 use Rattle.layout.specs.Sizes.{slots_of}
 use Rattle.layout.specs.Bytes.{round}
@@ -30,20 +30,20 @@ stores_hidden (x ∷ xs) r g es q w =
           (stores_hidden xs (stored r g.n x.entry x.bytes) (grown g x.entry) (es ++ x.entry ∷ []) (stored_reads r g es x.entry x.bytes q k) w.1),
     )
 
-same_writes : (xs ys : List Write) → ◌≡◌ {A = Option (List Write)} (some xs) (some ys) → xs ≡ ys
+same_writes : (xs ys : List Write) → ◌≡◌ {A = Option (List Write)} (Some xs) (Some ys) → xs ≡ ys
 same_writes xs ys e = cc
 
-pub stores_hold : (xs : List Coming) (r : List ℕ) (g : Ring) (es : List Entry) (ws : List Write) → reading_of r ≡ readable g es → writes_of r ≡ some ws → AllStorable g es xs
-    → writes_of (run r (joined (stores_of g.n xs))) ≡ some (ws ++ map write_in xs)
+pub stores_hold : (xs : List Coming) (r : List ℕ) (g : Ring) (es : List Entry) (ws : List Write) → reading_of r ≡ readable g es → writes_of r ≡ Some ws → AllStorable g es xs
+    → writes_of (run r (joined (stores_of g.n xs))) ≡ Some (ws ++ map write_in xs)
 unfolding run
-stores_hold [] r g es ws q e w = e ∙ ap some (sym (append-nil ws))
+stores_hold [] r g es ws q e w = e ∙ ap Some (sym (append-nil ws))
 stores_hold (x ∷ xs) r g es ws q e w =
     let old : map (write_of (round r g.n)) es ≡ ws = same_writes _ ws (sym (readable_facts r g es q).writes ∙ e) in
-    let e₁ : writes_of (stored r g.n x.entry x.bytes) ≡ some (ws ++ write_in x ∷ []) = stored_holds r g es x.entry x.bytes q w.0 ∙ ap (λ ys. some (ys ++ write_in x ∷ [])) old in
+    let e₁ : writes_of (stored r g.n x.entry x.bytes) ≡ Some (ws ++ write_in x ∷ []) = stored_holds r g es x.entry x.bytes q w.0 ∙ ap (λ ys. Some (ys ++ write_in x ∷ [])) old in
     ap writes_of (run_append (store_steps g.n x.entry x.bytes) (joined (stores_of g.n xs)) r)
     ∙ ap (λ y. writes_of (run y (joined (stores_of g.n xs)))) (sym (stored_run r g.n x.entry x.bytes (w.0).bytes))
     ∙ stores_hold xs (stored r g.n x.entry x.bytes) (grown g x.entry) (es ++ x.entry ∷ []) (ws ++ write_in x ∷ []) (stored_reads r g es x.entry x.bytes q w.0) e₁ w.1
-    ∙ ap some (append_assoc ws (write_in x ∷ []) (map write_in xs))
+    ∙ ap Some (append_assoc ws (write_in x ∷ []) (map write_in xs))
 
 -- the parts done whole are those of the entries whose tail byte is stored
 whole_tails : (n : ℕ) (xs : List Coming) (k : ℕ) → whole_of (stores_of n xs) k ≡ stores_of n (tails_done xs k)
@@ -67,8 +67,8 @@ tails_storable (x ∷ xs) g es k w =
     at true o = (w.0, o)
     at false o = tt
 
-pub stores_cut : (xs : List Coming) (r : List ℕ) (g : Ring) (es : List Entry) (ws : List Write) → reading_of r ≡ readable g es → writes_of r ≡ some ws → AllStorable g es xs
-    → (k : ℕ) (junk : List ℕ) → writes_of (cut r (joined (stores_of g.n xs)) k junk) ≡ some (ws ++ map write_in (tails_done xs k))
+pub stores_cut : (xs : List Coming) (r : List ℕ) (g : Ring) (es : List Entry) (ws : List Write) → reading_of r ≡ readable g es → writes_of r ≡ Some ws → AllStorable g es xs
+    → (k : ℕ) (junk : List ℕ) → writes_of (cut r (joined (stores_of g.n xs)) k junk) ≡ Some (ws ++ map write_in (tails_done xs k))
 stores_cut xs r g es ws q e w k junk =
     sym (alike_holds _ _ (parts_cut (stores_of g.n xs) r (stores_hidden xs r g es q w) k junk))
     ∙ ap (λ ps. writes_of (run r (joined ps))) (whole_tails g.n xs k)

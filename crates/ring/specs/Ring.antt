@@ -1,11 +1,10 @@
 -- The words of the ring's laws: a ring that grows, shrinks or differs in free slots only, and what may be stored.
 -- Document 01, "The ring in battery memory".
-use Rattle.std.specs.Prelude.{ℕ, ◌+◌, ◌-◌, ◌*◌, ◌%◌, ◌^◌, ◌<◌, ◌≡◌, List, true, length}
+use Rattle.std.specs.Prelude.{ℕ, ◌+◌, ◌-◌, ◌*◌, ◌%◌, ◌^◌, ◌<◌, ◌≡◌, List, true, length, Some}
 use Rattle.layout.specs.Sizes.{header_size, slot_size, slots_of}
 use Rattle.layout.specs.Bytes.{flat, round, Same}
 use Rattle.layout.specs.declared.Ring.{Ring}
 use Rattle.walk.specs.declared.Entry.{Entry}
-use Rattle.walk.specs.declared.Header.TheVariants.{Good}
 use Rattle.walk.specs.Header.{header_of}
 use Rattle.walk.specs.Entry.{valid_fields}
 use Rattle.walk.specs.Walk.{last_of}
@@ -43,5 +42,5 @@ pub record Storable (g : Ring) (es : List Entry) (e : Entry) (bs : List ℕ) : T
 pub record Alike (r r' : List ℕ) : Type 0 where
   pub len : length r ≡ length r'
   pub header : Same (flat r) 0 (flat r') 0 header_size
-  pub slots : (g : Ring) → header_of r ≡ Good g
+  pub slots : (g : Ring) → header_of r ≡ Some g
       → Same (round r g.n) (g.head * slot_size) (round r' g.n) (g.head * slot_size) (g.used * slot_size)

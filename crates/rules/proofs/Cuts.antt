@@ -1,10 +1,10 @@
 -- Every call's ring is what its steps leave; and a call that is cut off leaves the ring as it was, but for free slots, or as the whole call leaves it, by whether the
 -- deciding byte was stored. For every call but making, every ring and state, every count of steps and any bytes in the slot that was cut short. Document 02, Q-8.
+use Rattle.std.specs.Prelude.{Option, None, Some}
 use Prim.Native.Nat.{ℕ, zero, suc, ◌+◌, ◌-◌, ◌≤◌, ◌<◌}
 use mathlib.Core.Path.{◌≡◌, refl, sym, ap, ◌∙◌}
 use mathlib.Core.Bool.{Bool, true, false}
 use mathlib.Core.List.{List, [], ◌∷◌, map}
-use mathlib.Core.Option.{Option, none, some}
 use native.Mathlib.Omega.{arith}
 use borrow.Author.Tests.{leb-true, leb-false, ltb-false}
 use lib.ListN.{length, get_or}
@@ -65,8 +65,8 @@ module _ (c : Call) (r : List ℕ) (s : State) (not_made : is_one c (makes ∷ [
 
   runs_by : (x : Option Reason) → refusal_of c r s ≡ x → (outcome c r s).ring ≡ run r (steps_of c r s)
   unfolding outcome steps_of run
-  runs_by none o = rw o (done_runs c.kind refl _ _ _)
-  runs_by (some why) o = rw o refl
+  runs_by None o = rw o (done_runs c.kind refl _ _ _)
+  runs_by (Some why) o = rw o refl
 
   pub outcome_runs : (outcome c r s).ring ≡ run r (steps_of c r s)
   outcome_runs = runs_by (refusal_of c r s) refl
@@ -93,8 +93,8 @@ module _ (c : Call) (r : List ℕ) (s : State) (not_made : is_one c (makes ∷ [
 
   steps_count : (x : Option Reason) → refusal_of c r s ≡ x → length (steps_of c r s) ≤ decided_by c.kind c
   unfolding steps_of
-  steps_count none o = rw o (count_by c.kind _ _)
-  steps_count (some why) o = rw o (omega arith)
+  steps_count None o = rw o (count_by c.kind _ _)
+  steps_count (Some why) o = rw o (omega arith)
 
   -- cut off when the deciding byte was stored: the ring is that of the whole call
   pub cut_made : (k : ℕ) (junk : List ℕ) → is_made c k ≡ true → ring_cut c r s k junk ≡ (outcome c r s).ring
@@ -105,8 +105,8 @@ module _ (c : Call) (r : List ℕ) (s : State) (not_made : is_one c (makes ∷ [
 
   -- ---- cut off before
 
-  module _ (o : refusal_of c r s ≡ none) where
-    unreadable_refused : reading_of r ≡ unreadable → refusal_of c r s ≡ some Unreadable
+  module _ (o : refusal_of c r s ≡ None) where
+    unreadable_refused : reading_of r ≡ unreadable → refusal_of c r s ≡ Some Unreadable
     unfolding refusal_of both
     unreadable_refused q = rw (q, not_made)
 
@@ -116,7 +116,7 @@ module _ (c : Call) (r : List ℕ) (s : State) (not_made : is_one c (makes ∷ [
 
     write_cut : (x : Reading) → reading_of r ≡ x → c.kind ≡ writes → (k : ℕ) → k < slots_of (length c.bytes) + 1 → (junk : List ℕ)
         → Alike r (cut r (store_steps (ring_of x).n (new_entry (ring_of x) s.next c) c.bytes) k junk)
-    write_cut unreadable q e k h junk = never (let w : none ≡ some Unreadable = sym o ∙ unreadable_refused q in cc)
+    write_cut unreadable q e k h junk = never (let w : None ≡ Some Unreadable = sym o ∙ unreadable_refused q in cc)
     write_cut (readable g es) q e k h junk =
         let f = readable_facts r g es q in
         let u = f.free in
@@ -151,8 +151,8 @@ module _ (c : Call) (r : List ℕ) (s : State) (not_made : is_one c (makes ∷ [
 
   unmade_by : (x : Option Reason) → refusal_of c r s ≡ x → (k : ℕ) (junk : List ℕ) → is_made c k ≡ false → Alike r (ring_cut c r s k junk)
   unfolding steps_of cut
-  unmade_by none o k junk m = rw o (cut_by o c.kind refl k junk (leb-false (decided_by c.kind c) k m))
-  unmade_by (some why) o k junk m = rw o (alike_same r r refl)
+  unmade_by None o k junk m = rw o (cut_by o c.kind refl k junk (leb-false (decided_by c.kind c) k m))
+  unmade_by (Some why) o k junk m = rw o (alike_same r r refl)
 
   pub cut_unmade : (k : ℕ) (junk : List ℕ) → is_made c k ≡ false → Alike r (ring_cut c r s k junk)
   cut_unmade k junk m = unmade_by (refusal_of c r s) refl k junk m

@@ -1,9 +1,9 @@
 -- From the judge's word to the outcome: a call that it refuses, and what a call that it lets pass may count on.
+use Rattle.std.specs.Prelude.{Some}
 use Prim.Native.Nat.{ℕ}
 use mathlib.Core.Path.{◌≡◌, refl, sym, ◌∙◌, ap}
 use mathlib.Core.Bool.{Bool, true, false}
 use mathlib.Core.List.{List, [], ◌∷◌}
-use mathlib.Core.Option.{some}
 use lib.ListN.{length, take}
 use lib.Seq.{take_at}
 use Rattle.reason.specs.declared.Reason.{Reason}
@@ -75,28 +75,28 @@ same_reason : (a b : Reason) → ◌≡◌ {A = Verdict} (Refused a) (Refused b)
 same_reason a b e = cc
 
 module _ (c : Call) (o : Judges c) (r : List ℕ) (s : State) where
-  pub unreadable_refused : reading_of r ≡ unreadable → refusal_of c r s ≡ some Unreadable
+  pub unreadable_refused : reading_of r ≡ unreadable → refusal_of c r s ≡ Some Unreadable
   unfolding refusal_of both
   unreadable_refused q = rw (q, o.reads)
 
-  pub unfit_refused : (g : Ring) (es : List Entry) → reading_of r ≡ readable g es → fits es s ≡ false → refusal_of c r s ≡ some StateUnfit
+  pub unfit_refused : (g : Ring) (es : List Entry) → reading_of r ≡ readable g es → fits es s ≡ false → refusal_of c r s ≡ Some StateUnfit
   unfolding refusal_of both
   unfit_refused g es q f = rw (q, o.reads, o.fits, f)
 
   refused_by : (why : Reason) (h : Ring) (es : List Entry) (j : Judged) (b : Bool) → reading_of r ≡ readable h es → fits es s ≡ b
-      → j ≡ judged_of (readable h es) s → j.verdict ≡ Refused why → refusal_of c r s ≡ some why
+      → j ≡ judged_of (readable h es) s → j.verdict ≡ Refused why → refusal_of c r s ≡ Some why
   refused_by why h es j true q f e v =
       let w : j.verdict ≡ Fits h = ap (λ x. x.verdict) (rw f at e) in
       never (cc)
   refused_by why h es j false q f e v =
       let w : j.verdict ≡ Refused StateUnfit = ap (λ x. x.verdict) (rw f at e) in
-      unfit_refused h es q f ∙ ap some (same_reason _ _ (sym w ∙ v))
+      unfit_refused h es q f ∙ ap Some (same_reason _ _ (sym w ∙ v))
 
-  refused_at : (why : Reason) (j : Judged) (x : Reading) → reading_of r ≡ x → j ≡ judged_of x s → j.verdict ≡ Refused why → refusal_of c r s ≡ some why
-  refused_at why j unreadable q e v = unreadable_refused q ∙ ap some (same_reason _ _ (ap (λ x. x.verdict) (sym e) ∙ v))
+  refused_at : (why : Reason) (j : Judged) (x : Reading) → reading_of r ≡ x → j ≡ judged_of x s → j.verdict ≡ Refused why → refusal_of c r s ≡ Some why
+  refused_at why j unreadable q e v = unreadable_refused q ∙ ap Some (same_reason _ _ (ap (λ x. x.verdict) (sym e) ∙ v))
   refused_at why j (readable h es) q e v = refused_by why h es j (fits es s) q refl e v
 
-  pub judge_no : (why : Reason) (j : Judged) → j ≡ judged_of (reading_of r) s → j.verdict ≡ Refused why → refusal_of c r s ≡ some why
+  pub judge_no : (why : Reason) (j : Judged) → j ≡ judged_of (reading_of r) s → j.verdict ≡ Refused why → refusal_of c r s ≡ Some why
   judge_no why j e v = refused_at why j (reading_of r) refl e v
 
   pub judge_refuses : (why : Reason) (j : Judged) → j ≡ judged_of (reading_of r) s → j.verdict ≡ Refused why → lent_by (refuses why) s r c.buffer ≡ outcome c r s

@@ -1,9 +1,9 @@
 -- A reason is given exactly when its row applies and no earlier one does. Document 01, "When the box says no".
+use Rattle.std.specs.Prelude.{Option, Some}
 use Prim.Native.Nat.{ℕ}
 use mathlib.Core.Path.{◌≡◌, refl, ◌∙◌, ap}
 use mathlib.Core.Bool.{Bool, true, false}
 use mathlib.Core.List.{List, [], ◌∷◌, ◌++◌, map}
-use mathlib.Core.Option.{Option, some}
 use Rattle.layout.proofs.Tests.{never}
 use Rattle.reason.specs.declared.Reason.{Reason}
 use Rattle.reason.specs.Reason.{number_of}
@@ -24,12 +24,12 @@ pub record First (p : Reason → Bool) (whys : List Reason) (why : Reason) : Typ
   pub applies : p why ≡ true
   pub none_before : any p earlier ≡ false
 
-pub same_some : {A : Type 0} (a b : A) → ◌≡◌ {A = Option A} (some a) (some b) → a ≡ b
+pub same_some : {A : Type 0} (a b : A) → ◌≡◌ {A = Option A} (Some a) (Some b) → a ≡ b
 same_some a b e = cc
 
 module _ (p : Reason → Bool) where
-  given_by : (x : Reason) (xs : List Reason) (why : Reason) (b : Bool) → p x ≡ b → (first p xs ≡ some why → First p xs why)
-      → first p (x ∷ xs) ≡ some why → First p (x ∷ xs) why
+  given_by : (x : Reason) (xs : List Reason) (why : Reason) (b : Bool) → p x ≡ b → (first p xs ≡ Some why → First p xs why)
+      → first p (x ∷ xs) ≡ Some why → First p (x ∷ xs) why
   given_by x xs why true e k o =
       let z : x ≡ why = same_some x why (rw e at o) in
       rw (← z) (record { earlier = []; later = xs; stands = refl; applies = e; none_before = refl })
@@ -37,26 +37,26 @@ module _ (p : Reason → Bool) where
       let f = k (rw e at o) in
       record { earlier = x ∷ f.earlier; later = f.later; stands = ap (◌∷◌ x) f.stands; applies = f.applies; none_before = rw e f.none_before }
 
-  pub first_given : (whys : List Reason) (why : Reason) → first p whys ≡ some why → First p whys why
+  pub first_given : (whys : List Reason) (why : Reason) → first p whys ≡ Some why → First p whys why
   first_given [] why o = never (cc)
   first_given (x ∷ xs) why o = given_by x xs why (p x) refl (first_given xs why) o
 
   gives_by : (x : Reason) (xs later : List Reason) (why : Reason) (b : Bool) → p x ≡ b → any p (x ∷ xs) ≡ false
-      → (any p xs ≡ false → first p (xs ++ why ∷ later) ≡ some why) → first p ((x ∷ xs) ++ why ∷ later) ≡ some why
+      → (any p xs ≡ false → first p (xs ++ why ∷ later) ≡ Some why) → first p ((x ∷ xs) ++ why ∷ later) ≡ Some why
   gives_by x xs later why true e o k = never (let w : true ≡ false = (rw e at o) in cc)
   gives_by x xs later why false e o k = rw e (k (rw e at o))
 
-  first_gives : (earlier later : List Reason) (why : Reason) → p why ≡ true → any p earlier ≡ false → first p (earlier ++ why ∷ later) ≡ some why
+  first_gives : (earlier later : List Reason) (why : Reason) → p why ≡ true → any p earlier ≡ false → first p (earlier ++ why ∷ later) ≡ Some why
   first_gives [] later why e o = rw e
   first_gives (x ∷ xs) later why e o = gives_by x xs later why (p x) refl o (first_gives xs later why e)
 
 module _ (c : Call) (r : List ℕ) (s : State) (why : Reason) where
   -- given only then
-  pub refused_when : refusal_of c r s ≡ some why → First (applies c r s) order why
+  pub refused_when : refusal_of c r s ≡ Some why → First (applies c r s) order why
   unfolding refusal_of
   refused_when e = first_given (applies c r s) order why e
 
   -- and always then
-  pub refused_then : First (applies c r s) order why → refusal_of c r s ≡ some why
+  pub refused_then : First (applies c r s) order why → refusal_of c r s ≡ Some why
   unfolding refusal_of
   refused_then f = ap (first (applies c r s)) f.stands ∙ first_gives (applies c r s) f.earlier f.later why f.applies f.none_before

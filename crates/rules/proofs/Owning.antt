@@ -1,9 +1,9 @@
 -- Each call's own refusals, as the order leaves them; and what a call that passed the judge may count on.
+use Rattle.std.specs.Prelude.{Option, None, Some}
 use Prim.Native.Nat.{ℕ, ◌+◌, ◌-◌, ◌≤◌, ◌<◌}
 use mathlib.Core.Path.{◌≡◌, refl, sym, ◌∙◌, ap}
 use mathlib.Core.Bool.{Bool, true, false, not}
 use mathlib.Core.List.{List, [], ◌∷◌, map}
-use mathlib.Core.Option.{Option, none, some}
 use native.Mathlib.Omega.{arith}
 use borrow.Author.Tests.{leb-true, ltb-true, ltb-false, eqb-false}
 use lib.ListN.{length, take}
@@ -35,7 +35,7 @@ use Rattle.rules.specs.Refusals.{own}
 
 -- one refusal, and what comes after it
 abbrev pub or : Bool → Reason → Option Reason → Option Reason
-or b why rest = pick b (some why) rest
+or b why rest = pick b (Some why) rest
 
 module _ (r : List ℕ) (x : Reading) (s : State) where
   pub own_write : (node handle offset : ℕ) (bs : List ℕ) → own (write node handle offset bs) r x s
@@ -43,35 +43,35 @@ module _ (r : List ℕ) (x : Reading) (s : State) where
       (or (pick (eqb (length bs) 0) true (ltb largest (length bs))) BadLength
       (or (ltb file_end (offset + length bs)) PastFileEnd
       (or (eqb s.next number_limit) NoNumber
-      (or (ltb ((ring_of x).n - 1 - (ring_of x).used) (slots_of (length bs))) NoRoom none))))
+      (or (ltb ((ring_of x).n - 1 - (ring_of x).used) (slots_of (length bs))) NoRoom None))))
   unfolding both
   own_write node handle offset bs = refl
 
-  pub own_pin : (node : ℕ) → own (pin node) r x s ≡ or (not (has_pin 0 s.pins)) TooManyPins (or (eqb s.next number_limit) NoNumber none)
+  pub own_pin : (node : ℕ) → own (pin node) r x s ≡ or (not (has_pin 0 s.pins)) TooManyPins (or (eqb s.next number_limit) NoNumber None)
   unfolding both
   own_pin node = refl
 
-  pub own_unpin : (number : ℕ) → own (unpin number) r x s ≡ or (not (both (ltb 0 number) (has_pin number s.pins))) NoSuchPin none
+  pub own_unpin : (number : ℕ) → own (unpin number) r x s ≡ or (not (both (ltb 0 number) (has_pin number s.pins))) NoSuchPin None
   unfolding both
   own_unpin number = refl
 
-  pub own_end : (node : ℕ) → own (ask_end node) r x s ≡ or (eqb node 0) NodeZero none
+  pub own_end : (node : ℕ) → own (ask_end node) r x s ≡ or (eqb node 0) NodeZero None
   unfolding both
   own_end node = refl
 
-  pub own_report : (number : ℕ) (good : Bool) → own (report number good) r x s ≡ or (not (both (ltb 0 s.flush) (eqb number s.flush))) NotTheFlush none
+  pub own_report : (number : ℕ) (good : Bool) → own (report number good) r x s ≡ or (not (both (ltb 0 s.flush) (eqb number s.flush))) NotTheFlush None
   unfolding both
   own_report number good = refl
 
-  pub own_ticket : own take_ticket r x s ≡ or (eqb s.next number_limit) NoNumber none
+  pub own_ticket : own take_ticket r x s ≡ or (eqb s.next number_limit) NoNumber None
   unfolding both
   own_ticket = refl
 
-  pub own_ask : (ticket node : ℕ) → own (ask_ticket ticket node) r x s ≡ none
+  pub own_ask : (ticket node : ℕ) → own (ask_ticket ticket node) r x s ≡ None
   unfolding both
   own_ask ticket node = refl
 
-  pub own_turn : own ask_turn r x s ≡ none
+  pub own_turn : own ask_turn r x s ≡ None
   unfolding both
   own_turn = refl
 
@@ -79,7 +79,7 @@ module _ (r : List ℕ) (x : Reading) (s : State) where
       ≡ or (eqb node 0) NodeZero
       (or (ltb 0 s.flush) FlushUnderWay
       (or (both (has_batch node (held_of x s)) (eqb s.next number_limit)) NoNumber
-      (or (both (has_batch node (held_of x s)) (ltb (length buffer) (length (sheet_for node r (ring_of x) (held_of x s))))) BadBuffer none)))
+      (or (both (has_batch node (held_of x s)) (ltb (length buffer) (length (sheet_for node r (ring_of x) (held_of x s))))) BadBuffer None)))
   unfolding both
   own_start node buffer = refl
 
@@ -87,7 +87,7 @@ module _ (r : List ℕ) (x : Reading) (s : State) where
       ≡ or (eqb node 0) NodeZero
       (or (ltb file_end (offset + length buffer)) PastFileEnd
       (or (not (both (ltb 0 number) (has_pin_for number node s.pins))) NoSuchPin
-      (or (pick (ltb (length buffer) fetched) true (ltb longest_fill (length buffer))) BadBuffer none)))
+      (or (pick (ltb (length buffer) fetched) true (ltb longest_fill (length buffer))) BadBuffer None)))
   unfolding both
   own_fill number node offset fetched buffer = refl
 
@@ -95,14 +95,14 @@ module _ (r : List ℕ) (x : Reading) (s : State) where
 
 pub record Writable (g : Ring) (s : State) (node offset length : ℕ) : Type 0 where
   pub named : node ≡ 0 → ⊥
-  pub some : 0 < length
+  pub Some : 0 < length
   pub most : length ≤ largest
   pub end : offset + length ≤ file_end
   pub next : s.next ≡ number_limit → ⊥
   pub room : slots_of length ≤ g.n - 1 - g.used
 
 -- a refusal that isn't given
-or_none : (b : Bool) (why : Reason) (rest : Option Reason) → or b why rest ≡ none → (b ≡ false) × (rest ≡ none)
+or_none : (b : Bool) (why : Reason) (rest : Option Reason) → or b why rest ≡ None → (b ≡ false) × (rest ≡ None)
 or_none true why rest e = never (cc)
 or_none false why rest e = (refl, e)
 
@@ -110,7 +110,7 @@ pub pick_false : (a b : Bool) → pick a true b ≡ false → (a ≡ false) × (
 pick_false true b e = never (cc)
 pick_false false b e = (refl, e)
 
-pub writes_when : (g : Ring) (s : State) (node offset : ℕ) (bs : List ℕ) → own (write node 0 offset bs) [] (readable g []) s ≡ none → Writable g s node offset (length bs)
+pub writes_when : (g : Ring) (s : State) (node offset : ℕ) (bs : List ℕ) → own (write node 0 offset bs) [] (readable g []) s ≡ None → Writable g s node offset (length bs)
 writes_when g s node offset bs e =
     let a = or_none _ _ _ (sym (own_write [] (readable g []) s node 0 offset bs) ∙ e) in
     let b = or_none _ _ _ a.1 in
@@ -121,7 +121,7 @@ writes_when g s node offset bs e =
     let n = eqb-false (length bs) 0 l.0 in
     record {
       named = eqb-false node 0 a.0;
-      some = omega (arith, n);
+      Some = omega (arith, n);
       most = ltb-false largest (length bs) l.1;
       end = ltb-false file_end (offset + length bs) c.0;
       next = eqb-false s.next number_limit d.0;

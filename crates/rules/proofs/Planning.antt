@@ -1,9 +1,9 @@
 -- A call that is planned: its plan's steps are the call's steps, each finds its ring, and run to the end they leave the outcome's ring. Document 02, Q-8.
+use Rattle.std.specs.Prelude.{Option, None, Some}
 use Prim.Native.Nat.{ℕ, ◌+◌, ◌≤◌, ◌<◌}
 use mathlib.Core.Path.{◌≡◌, refl, sym, ap, ◌∙◌}
 use mathlib.Core.Bool.{Bool, true, false}
 use mathlib.Core.List.{List, [], ◌∷◌, map}
-use mathlib.Core.Option.{Option, none, some}
 use native.Mathlib.Omega.{arith}
 use native.Mathlib.Nat.{mod-lt}
 use lib.ListN.{length, take}
@@ -63,13 +63,13 @@ module _ (c : Call) (o : Judges c) (r : List ℕ) (s : State) (g : Ring) (count 
 
 -- ---- a call that tests 8 and 12, and isn't refused: the ring reads, and the state fits
 
-module _ (c : Call) (o : Judges c) (r : List ℕ) (s : State) (free : refusal_of c r s ≡ none) where
+module _ (c : Call) (o : Judges c) (r : List ℕ) (s : State) (free : refusal_of c r s ≡ None) where
   fit_by : (g : Ring) (es : List Entry) → reading_of r ≡ readable g es → (b : Bool) → fits es s ≡ b → Stands r s
   fit_by g es q true f = record { ring = g; entries = es; reading = q; fit = fits_sound es s f }
-  fit_by g es q false f = never (let w : none ≡ some StateUnfit = sym free ∙ unfit_refused c o r s g es q f in cc)
+  fit_by g es q false f = never (let w : None ≡ Some StateUnfit = sym free ∙ unfit_refused c o r s g es q f in cc)
 
   stands_by : (x : Reading) → reading_of r ≡ x → Stands r s
-  stands_by unreadable q = never (let w : none ≡ some Unreadable = sym free ∙ unreadable_refused c o r s q in cc)
+  stands_by unreadable q = never (let w : None ≡ Some Unreadable = sym free ∙ unreadable_refused c o r s q in cc)
   stands_by (readable g es) q = fit_by g es q (fits es s) refl
 
   pub passed_stands : Stands r s
@@ -97,7 +97,7 @@ module _ (c : Call) (r : List ℕ) (s : State) where
         finds = head_finds r k.ring h (slot_after k.ring u) c.bytes (mod-lt (k.ring.head + u) (omega arith));
       }
 
-  plans_entry : (free : refusal_of c r s ≡ none) (k : Stands r s) → c.kind ≡ writes
+  plans_entry : (free : refusal_of c r s ≡ None) (k : Stands r s) → c.kind ≡ writes
       → Plans (entry_plan k.ring (new_entry k.ring s.next c)) (store_steps k.ring.n (new_entry k.ring s.next c) c.bytes)
   plans_entry free k e =
       let h = reading_header (reading_sound r k.ring k.entries k.reading) in
@@ -118,7 +118,7 @@ module _ (c : Call) (r : List ℕ) (s : State) where
   plans_report false k hs = plans_none
 
   -- of a call that isn't refused
-  module _ (free : refusal_of c r s ≡ none) where
+  module _ (free : refusal_of c r s ≡ None) where
     stands : is_one c (makes ∷ reopens ∷ []) ≡ false → is_one c (makes ∷ []) ≡ false → Stands r s
     stands a b = passed_stands c (record { reads = b; fits = a }) r s free
 
@@ -149,8 +149,8 @@ module _ (c : Call) (r : List ℕ) (s : State) where
 
   plans_when : (x : Option Reason) → refusal_of c r s ≡ x → Plans (plan_of c r s) (steps_of c r s)
   unfolding plan_of steps_of
-  plans_when none o = rw o (plans_by o c.kind refl)
-  plans_when (some why) o = rw o plans_none
+  plans_when None o = rw o (plans_by o c.kind refl)
+  plans_when (Some why) o = rw o plans_none
 
   plans : Plans (plan_of c r s) (steps_of c r s)
   plans = plans_when (refusal_of c r s) refl

@@ -1,8 +1,8 @@
 -- What is said on paper tells one answer from another: refusals by their numbers, answers by their values.
+use Rattle.std.specs.Prelude.{Some}
 use Prim.Native.Nat.{ℕ, ◌<◌}
 use mathlib.Core.Path.{◌≡◌, refl, sym, ◌∙◌, ap}
 use mathlib.Core.List.{List, [], ◌∷◌}
-use mathlib.Core.Option.{some}
 use native.Mathlib.Omega.{arith}
 use lib.Dec.{eqb}
 use Rattle.reason.specs.declared.Reason.{Reason}
@@ -15,7 +15,7 @@ use Rattle.rules.proofs.Order.{same_some}
 
 -- ---- a refusal's number tells its reason, and is never 0
 
-numbered_back : (w : Reason) → first (λ v. eqb (number_of v) (number_of w)) order ≡ some w
+numbered_back : (w : Reason) → first (λ v. eqb (number_of v) (number_of w)) order ≡ Some w
 numbered_back NodeZero = refl
 numbered_back BadLength = refl
 numbered_back PastFileEnd = refl

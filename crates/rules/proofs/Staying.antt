@@ -1,9 +1,9 @@
 -- From a made or reopened ring, over any calls: the state fits the ring, and 8 and 12 never come.
+use Rattle.std.specs.Prelude.{Option, None, Some}
 use Prim.Native.Nat.{ℕ, zero, suc, ◌+◌, ◌-◌, ◌≤◌, ◌<◌}
 use mathlib.Core.Path.{◌≡◌, refl, ap}
 use mathlib.Core.Bool.{Bool, true, false, not}
 use mathlib.Core.List.{List, [], ◌∷◌, map}
-use mathlib.Core.Option.{Option, none, some}
 use native.Mathlib.Omega.{arith}
 use borrow.Author.Tests.{eqb-true, eqb-false, lt-ltb, le-leb, ltb-false}
 use lib.ListN.{length, get_or, replicate, length-map}
@@ -43,11 +43,11 @@ use Rattle.rules.proofs.Standing.{Real, Stands, stands_ticket, stands_pin, stand
 -- ---- rows of a call that isn't refused
 
 module _ (p : Reason → Bool) where
-  none_by : (x : Reason) (xs : List Reason) (b : Bool) → p x ≡ b → first p (x ∷ xs) ≡ none → (p x ≡ false) × (first p xs ≡ none)
-  none_by x xs true e o = never (let w : ◌≡◌ {A = Option Reason} (some x) none = (rw e at o) in cc)
+  none_by : (x : Reason) (xs : List Reason) (b : Bool) → p x ≡ b → first p (x ∷ xs) ≡ None → (p x ≡ false) × (first p xs ≡ None)
+  none_by x xs true e o = never (let w : ◌≡◌ {A = Option Reason} (Some x) None = (rw e at o) in cc)
   none_by x xs false e o = (e, rw e at o)
 
-  pub first_none : (d : Reason) (xs : List Reason) (i : ℕ) → first p xs ≡ none → i < length xs → p (get_or xs i d) ≡ false
+  pub first_none : (d : Reason) (xs : List Reason) (i : ℕ) → first p xs ≡ None → i < length xs → p (get_or xs i d) ≡ false
   first_none d [] i o h = absurd (omega arith)
   first_none d (x ∷ xs) zero o h = (none_by x xs (p x) refl o).0
   first_none d (x ∷ xs) (suc i) o h = first_none d xs i (none_by x xs (p x) refl o).1 (omega arith)
@@ -55,7 +55,7 @@ module _ (p : Reason → Bool) where
 -- ---- every call
 
 module _ (c : Call) (r : List ℕ) (s : State) (k : Stands r s) where
-  module _ (o : refusal_of c r s ≡ none) where
+  module _ (o : refusal_of c r s ≡ None) where
     pub free : (i : ℕ) → i < 12 → applies c r s (get_or order i Unreadable) ≡ false
     unfolding refusal_of
     free i h = first_none (applies c r s) Unreadable order i o h
@@ -73,7 +73,7 @@ module _ (c : Call) (r : List ℕ) (s : State) (k : Stands r s) where
         let g : ring_of (reading_of r) ≡ k.ring = ap ring_of k.reading in
         record {
           named = eqb-false c.node 0 (both_fails _ _ (free 2 (omega arith)) (rw e));
-          some = omega (arith, n);
+          Some = omega (arith, n);
           most = ltb-false largest (length c.bytes) l.1;
           end = ltb-false file_end (c.offset + length c.bytes) (rw e at (both_fails _ _ (free 4 (omega arith)) (rw e)));
           next = eqb-false s.next number_limit (both_fails _ _ (free 9 (omega arith)) (rw e));
@@ -113,21 +113,21 @@ module _ (c : Call) (r : List ℕ) (s : State) (k : Stands r s) where
 
   stays_by : (x : Option Reason) → refusal_of c r s ≡ x → Judges c → Real c → Stands (outcome c r s).ring (outcome c r s).state
   unfolding outcome
-  stays_by none o j v = rw (o, k.reading) (done_stands o c.kind refl j v)
-  stays_by (some why) o j v = rw o k
+  stays_by None o j v = rw (o, k.reading) (done_stands o c.kind refl j v)
+  stays_by (Some why) o j v = rw o k
 
   -- a call that tests 8 and 12 leaves a ring that is readable and a state that fits it
   pub stays : Judges c → Real c → Stands (outcome c r s).ring (outcome c r s).state
   stays j v = stays_by (refusal_of c r s) refl j v
 
   -- and is never refused for them
-  not_applied : (why : Reason) → applies c r s why ≡ false → refusal_of c r s ≡ some why → ⊥
+  not_applied : (why : Reason) → applies c r s why ≡ false → refusal_of c r s ≡ Some why → ⊥
   not_applied why e o = true_not_false _ (refused_when c r s why o).applies e
 
-  pub never_unreadable : refusal_of c r s ≡ some Unreadable → ⊥
+  pub never_unreadable : refusal_of c r s ≡ Some Unreadable → ⊥
   never_unreadable = not_applied Unreadable (rw k.reading (both_no (not (is_one c (makes ∷ [])))))
 
-  pub never_unfit : refusal_of c r s ≡ some StateUnfit → ⊥
+  pub never_unfit : refusal_of c r s ≡ Some StateUnfit → ⊥
   never_unfit = not_applied StateUnfit (rw (k.reading, fits_true k.entries s k.fit) (both_no (not (is_one c (makes ∷ reopens ∷ [])))))
 
 -- ---- a ring that is made or reopened

@@ -1,6 +1,5 @@
 -- What every call does: what it says, the state and every byte of the ring, for all input. Document 01, "The ring in battery memory" and "Moves".
-use Rattle.std.specs.Prelude.{ℕ, ◌+◌, Bool, true, false, List, [], ◌∷◌, ◌++◌, map, length, set}
-use Rattle.std.proofs.Math.Option.{Option, none, some}
+use Rattle.std.specs.Prelude.{ℕ, ◌+◌, Bool, true, false, List, [], ◌∷◌, ◌++◌, map, length, set, Option, None, Some}
 use Rattle.reason.specs.declared.Reason.{Reason}
 use Rattle.reason.specs.Reason.{number_of}
 use Rattle.layout.specs.declared.Ring.{Ring}
@@ -121,8 +120,8 @@ done c x r s = done_by c.kind c (ring_of x) (entries_of x) (held_of x s) r s
 -- ---- "A refusal changes no state and no byte."
 
 abbrev pub unless : Option Reason → List ℕ → State → List ℕ → Outcome → Outcome
-unless none r s b o = o
-unless (some why) r s b o = lent_by (refuses why) s r b
+unless None r s b o = o
+unless (Some why) r s b o = lent_by (refuses why) s r b
 
 unfoldable pub outcome : Call → List ℕ → State → Outcome
 outcome c r s = unless (refusal_of c r s) r s c.buffer (done c (reading_of r) r s)

@@ -1,6 +1,5 @@
 -- A call planned and not yet made: what it will say, the state it will give back, and its stores in the ring, which the host makes one by one. Document 02, Q-8.
-use Rattle.std.specs.Prelude.{ℕ, Bool, true, false, List, map}
-use Rattle.std.proofs.Math.Option.{Option, none, some}
+use Rattle.std.specs.Prelude.{ℕ, Bool, true, false, List, map, Option, None, Some}
 use Rattle.reason.specs.declared.Reason.{Reason}
 use Rattle.layout.specs.declared.Ring.{Ring}
 use Rattle.walk.specs.Walk.{reading_of}
@@ -39,8 +38,8 @@ plan_by asks_ticket c g hs s = no_plan
 plan_by asks_turn c g hs s = no_plan
 
 abbrev pub unless_no : Option Reason → Plan → Plan
-unless_no none p = p
-unless_no (some why) p = no_plan
+unless_no None p = p
+unless_no (Some why) p = no_plan
 
 unfoldable pub plan_of : Call → List ℕ → State → Plan
 plan_of c r s = unless_no (refusal_of c r s) (plan_by c.kind c (ring_of (reading_of r)) (held_of (reading_of r) s) s)

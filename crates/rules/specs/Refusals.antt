@@ -1,6 +1,5 @@
 -- When the box says no: each row of the table, and the order. Document 01, "When the box says no".
-use Rattle.std.specs.Prelude.{ℕ, ◌+◌, ◌-◌, Bool, true, false, not, List, [], ◌∷◌, length, drop, eqb, ltb}
-use Rattle.std.proofs.Math.Option.{Option, none, some}
+use Rattle.std.specs.Prelude.{ℕ, ◌+◌, ◌-◌, Bool, true, false, not, List, [], ◌∷◌, length, drop, eqb, ltb, Option, None, Some}
 use Rattle.reason.specs.declared.Reason.{Reason}
 use Rattle.reason.specs.declared.Reason.TheVariants.{NodeZero, BadLength, PastFileEnd, NoRoom, NoNumber, FlushUnderWay, NotTheFlush, Unreadable, NoSuchPin, TooManyPins, BadBuffer, StateUnfit}
 use Rattle.layout.specs.Sizes.{largest, file_end, number_limit, slots_of}
@@ -98,8 +97,8 @@ order =
 
 -- "If several apply, the first in the order .. is given"
 abbrev pub first : (Reason → Bool) → List Reason → Option Reason
-first p [] = none
-first p (why ∷ whys) = pick (p why) (some why) (first p whys)
+first p [] = None
+first p (why ∷ whys) = pick (p why) (Some why) (first p whys)
 
 unfoldable pub refusal_of : Call → List ℕ → State → Option Reason
 refusal_of c r s = first (applies c r s) order

@@ -1,6 +1,5 @@
 -- The steps of every call, and from which of them on it is made. Document 02, Q-8.
-use Rattle.std.specs.Prelude.{ℕ, ◌+◌, Bool, true, false, List, [], ◌∷◌, ◌++◌, map, length, drop, leb}
-use Rattle.std.proofs.Math.Option.{Option, none, some}
+use Rattle.std.specs.Prelude.{ℕ, ◌+◌, Bool, true, false, List, [], ◌∷◌, ◌++◌, map, length, drop, leb, Option, None, Some}
 use Rattle.reason.specs.declared.Reason.{Reason}
 use Rattle.layout.specs.Sizes.{slots_of}
 use Rattle.layout.specs.declared.Ring.{Ring}
@@ -41,8 +40,8 @@ steps_by asks_ticket c g hs r s = []
 steps_by asks_turn c g hs r s = []
 
 abbrev pub unless_refused : Option Reason → List Step → List Step
-unless_refused none xs = xs
-unless_refused (some why) xs = []
+unless_refused None xs = xs
+unless_refused (Some why) xs = []
 
 unfoldable pub steps_of : Call → List ℕ → State → List Step
 steps_of c r s = unless_refused (refusal_of c r s) (steps_by c.kind c (ring_of (reading_of r)) (held_of (reading_of r) s) r s)

@@ -1,10 +1,10 @@
 -- From the code's entries to the batch's writes: the same newest write, key and byte at each place, and so the same sheet.
+use Rattle.std.specs.Prelude.{Option, None, Some}
 use Prim.Native.Nat.{ℕ, zero, suc, ◌+◌, ◌-◌, ◌*◌, ◌≤◌, ◌<◌}
 use native.Mathlib.Omega.{arith}
 use mathlib.Core.Path.{◌≡◌, refl, sym, ap, ◌∙◌}
 use mathlib.Core.Bool.{Bool, true, false}
 use mathlib.Core.List.{List, [], ◌∷◌, ◌++◌, map, map-append}
-use mathlib.Core.Option.{Option, none, some}
 use borrow.Author.Tests.{le-leb}
 use lib.ListN.{length, get_or, take}
 use lib.Seq.{take-suc}
@@ -71,10 +71,10 @@ module _ (f : ℕ → ℕ) (es : List Entry) where
   covers_entry p e = ap (λ l. spans e.offset l p) (bytes_length f (e.slot * slot_size + head_size) e.length)
 
   abbrev chosen : ℕ → Option Write
-  chosen zero = none
-  chosen (suc i) = some (write_of f (get_or es i no_entry))
+  chosen zero = None
+  chosen (suc i) = Some (write_of f (get_or es i no_entry))
 
-  newest_by : (p n : ℕ) (b : Bool) → pick b (some (write_of f (get_or es n no_entry))) (chosen (top_of es n p)) ≡ chosen (pick b (suc n) (top_of es n p))
+  newest_by : (p n : ℕ) (b : Bool) → pick b (Some (write_of f (get_or es n no_entry))) (chosen (top_of es n p)) ≡ chosen (pick b (suc n) (top_of es n p))
   newest_by p n true = refl
   newest_by p n false = refl
 
@@ -86,8 +86,8 @@ module _ (f : ℕ → ℕ) (es : List Entry) where
       ap (λ xs. newest p (map (write_of f) xs)) (take-suc es n no_entry h)
       ∙ ap (newest p) (map-append (write_of f) (take n es) (get_or es n no_entry ∷ []))
       ∙ last_snoc (covers p) (map (write_of f) (take n es)) w
-      ∙ ap (λ b. pick b (some w) (newest p (map (write_of f) (take n es)))) (covers_entry p (get_or es n no_entry))
-      ∙ ap (pick (overlies p (get_or es n no_entry)) (some w)) (newest_is p n (omega arith))
+      ∙ ap (λ b. pick b (Some w) (newest p (map (write_of f) (take n es)))) (covers_entry p (get_or es n no_entry))
+      ∙ ap (pick (overlies p (get_or es n no_entry)) (Some w)) (newest_is p n (omega arith))
       ∙ newest_by p n (overlies p (get_or es n no_entry))
 
   chosen_key : (i : ℕ) → key_in (chosen i) ≡ key_at i

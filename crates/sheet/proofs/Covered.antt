@@ -1,11 +1,11 @@
 -- The key, the end and the pieces of a batch of writes: which places are covered, and that all of them lie within the file.
+use Rattle.std.specs.Prelude.{Option, None, Some}
 use Prim.Native.Nat.{ℕ, zero, suc, ◌+◌, ◌≤◌, ◌<◌}
 use native.Mathlib.Omega.{arith}
 use mathlib.Core.Path.{◌≡◌, refl, ap, ◌∙◌}
 use mathlib.Core.Bool.{Bool, true, false}
 use mathlib.Core.Logic.{◌⊎◌, inl, inr}
 use mathlib.Core.List.{List, [], ◌∷◌}
-use mathlib.Core.Option.{Option, none, some}
 use borrow.Author.Tests.{leb-true}
 use lib.ListN.{length}
 use lib.Dec.{leb}
@@ -22,8 +22,8 @@ use Rattle.sheet.specs.Places.{is_short, grow, total}
 -- ---- the key: 1 exactly where some write covers the place, else 0
 
 key_in_law : (o : Option Write) → key_in o ≡ pick (is_some o) 1 0
-key_in_law none = refl
-key_in_law (some w) = refl
+key_in_law None = refl
+key_in_law (Some w) = refl
 
 pub key_is : (ws : List Write) (p : ℕ) → key_of ws p ≡ pick (any (covers p) ws) 1 0
 unfolding key_of

@@ -1,6 +1,5 @@
 -- The flush sheet. Document 01, "Moves", paragraph "Sheet", in its order; and a sheet read back from its bytes.
-use Rattle.std.specs.Prelude.{ℕ, zero, suc, ◌+◌, ◌-◌, ◌*◌, Bool, true, List, [], ◌∷◌, ◌++◌, length, take, drop, eqb, leb}
-use Rattle.std.proofs.Math.Option.{Option, none, some}
+use Rattle.std.specs.Prelude.{ℕ, zero, suc, ◌+◌, ◌-◌, ◌*◌, Bool, true, List, [], ◌∷◌, ◌++◌, length, take, drop, eqb, leb, Option, None, Some}
 use Rattle.layout.specs.Bytes.{both, flat, number4, bytes_at, bytes4}
 use Rattle.walk.specs.Walk.{Write}
 use Rattle.state.specs.Lists.{pick}
@@ -20,8 +19,8 @@ byte_of ws p = byte_over p 0 ws
 
 -- what the bytes of a run agree in: 0 where no write covers the place, 1 where one does
 abbrev pub key_in : Option Write → ℕ
-key_in none = 0
-key_in (some w) = 1
+key_in None = 0
+key_in (Some w) = 1
 
 unfoldable pub key_of : List Write → ℕ → ℕ
 key_of ws p = key_in (newest p ws)

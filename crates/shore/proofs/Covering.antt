@@ -1,10 +1,10 @@
 -- Laws of covering: writes laid in order show, at each place, the newest write's byte.
+use Rattle.std.specs.Prelude.{Option, None, Some}
 use Prim.Native.Nat.{ℕ, suc, ◌+◌, ◌-◌, ◌≤◌, ◌<◌}
 use mathlib.Core.Path.{◌≡◌, refl, sym, ap, ◌∙◌}
 use mathlib.Core.Bool.{Bool, true, false}
 use mathlib.Core.Logic.{◌⊎◌, inl, inr}
 use mathlib.Core.List.{List, [], ◌∷◌, ◌++◌}
-use mathlib.Core.Option.{Option, none, some}
 use native.Mathlib.Omega.{arith}
 use borrow.Author.Tests.{eqb-true, eqb-false, ne_eqb, leb-true, ltb-true, le-leb, lt-leb, lt-ltb, le-ltb}
 use lib.ListN.{length, get_or}
@@ -38,37 +38,37 @@ spans_out o l p e = (leb-true o p (both_left _ _ e), ltb-true p (o + l) (both_ri
 
 -- ---- the last that passes
 
-pub last_snoc : {A : Type 0} (q : A → Bool) (xs : List A) (x : A) → last_that q (xs ++ x ∷ []) ≡ pick (q x) (some x) (last_that q xs)
+pub last_snoc : {A : Type 0} (q : A → Bool) (xs : List A) (x : A) → last_that q (xs ++ x ∷ []) ≡ pick (q x) (Some x) (last_that q xs)
 last_snoc q [] x = refl
-last_snoc q (y ∷ ys) x = ap (λ o. or_else o (pick (q y) (some y) none)) (last_snoc q ys x) ∙ at (q x)
+last_snoc q (y ∷ ys) x = ap (λ o. or_else o (pick (q y) (Some y) None)) (last_snoc q ys x) ∙ at (q x)
   where
-    at : (b : Bool) → or_else (pick b (some x) (last_that q ys)) (pick (q y) (some y) none) ≡ pick b (some x) (or_else (last_that q ys) (pick (q y) (some y) none))
+    at : (b : Bool) → or_else (pick b (Some x) (last_that q ys)) (pick (q y) (Some y) None) ≡ pick b (Some x) (or_else (last_that q ys) (pick (q y) (Some y) None))
     at true = refl
     at false = refl
 
 -- there is one exactly where some element passes
 abbrev pub is_some : {A : Type 0} → Option A → Bool
-is_some none = false
-is_some (some x) = true
+is_some None = false
+is_some (Some x) = true
 
 pub last_some : {A : Type 0} (q : A → Bool) (xs : List A) → is_some (last_that q xs) ≡ any q xs
 last_some q [] = refl
 last_some q (x ∷ xs) = at (last_that q xs) (any q xs) (q x) (last_some q xs)
   where
-    at : (o : Option _) (a b : Bool) → is_some o ≡ a → is_some (or_else o (pick b (some x) none)) ≡ pick b true a
-    at none a true e = refl
-    at none a false e = e
-    at (some y) a true e = refl
-    at (some y) a false e = e
+    at : (o : Option _) (a b : Bool) → is_some o ≡ a → is_some (or_else o (pick b (Some x) None)) ≡ pick b true a
+    at None a true e = refl
+    at None a false e = e
+    at (Some y) a true e = refl
+    at (Some y) a false e = e
 
-pub last_passes : {A : Type 0} (q : A → Bool) (xs : List A) (x : A) → last_that q xs ≡ some x → q x ≡ true
+pub last_passes : {A : Type 0} (q : A → Bool) (xs : List A) (x : A) → last_that q xs ≡ Some x → q x ≡ true
 last_passes q [] x e = never (cc)
 last_passes q (y ∷ ys) x e = at (last_that q ys) refl (q y) refl (last_passes q ys x) e
   where
-    at : (o : Option _) → last_that q ys ≡ o → (b : Bool) → q y ≡ b → (last_that q ys ≡ some x → q x ≡ true) → or_else o (pick b (some y) none) ≡ some x → q x ≡ true
-    at none u true v k z = let w : y ≡ x = cc in ap q (sym w) ∙ v
-    at none u false v k z = never (cc)
-    at (some w) u b v k z = k (u ∙ z)
+    at : (o : Option _) → last_that q ys ≡ o → (b : Bool) → q y ≡ b → (last_that q ys ≡ Some x → q x ≡ true) → or_else o (pick b (Some y) None) ≡ Some x → q x ≡ true
+    at None u true v k z = let w : y ≡ x = cc in ap q (sym w) ∙ v
+    at None u false v k z = never (cc)
+    at (Some w) u b v k z = k (u ∙ z)
 
 -- ---- puts of bytes, at a place
 
@@ -125,10 +125,10 @@ look_all (w ∷ ws) i d =
     look_append (puts_of w) (puts_all ws) i d ∙ ap (look (puts_all ws) i) (look_puts w.bytes w.offset i d) ∙ look_all ws i _
     ∙ at (newest i ws) (covers i w)
   where
-    at : (o : Option Write) (b : Bool) → byte_in i (pick b (get_or w.bytes (i - w.offset) 0) d) o ≡ byte_in i d (or_else o (pick b (some w) none))
-    at none true = refl
-    at none false = refl
-    at (some x) b = refl
+    at : (o : Option Write) (b : Bool) → byte_in i (pick b (get_or w.bytes (i - w.offset) 0) d) o ≡ byte_in i d (or_else o (pick b (Some w) None))
+    at None true = refl
+    at None false = refl
+    at (Some x) b = refl
 
 pub touch_all : (ws : List Write) (i : ℕ) → touches i (puts_all ws) ≡ any (covers i) ws
 unfolding puts_all

@@ -1,10 +1,10 @@
 -- A search by place finds what the definitions name by number: the lowest of rising numbers is the first.
+use Rattle.std.specs.Prelude.{Option, None, Some}
 use Prim.Native.Nat.{ℕ, zero, suc, ◌≤◌, ◌<◌}
 use mathlib.Core.Path.{◌≡◌, refl, sym, ◌∙◌, ap}
 use mathlib.Core.Bool.{Bool, true, false, not}
 use mathlib.Core.List.{List, [], ◌∷◌, ◌++◌, map}
 use mathlib.Core.Logic.{◌⊎◌, inl, inr}
-use mathlib.Core.Option.{Option, none, some}
 use native.Mathlib.Omega.{arith}
 use borrow.Author.Tests.{lt-ltb, le-leb, lt-leb, eq-eqb, ne_eqb, ltb-true}
 use lib.ListN.{length, get_or, take}
@@ -68,16 +68,16 @@ rising_each below last (h ∷ hs) o = (o.1, rising_each below h.entry.number hs 
 -- ---- the lowest is the first
 
 abbrev Above : ℕ → Option Held → Type 0
-Above last none = Unit {0}
-Above last (some k) = last < k.entry.number
+Above last None = Unit {0}
+Above last (Some k) = last < k.entry.number
 
 above_less : (a b : ℕ) (x : Option Held) → a < b → Above b x → Above a x
-above_less a b none h o = tt
-above_less a b (some k) h o = omega arith
+above_less a b None h o = tt
+above_less a b (Some k) h o = omega arith
 
-lower_first : (h : Held) (x : Option Held) → Above h.entry.number x → lower h x ≡ some h
-lower_first h none o = refl
-lower_first h (some k) o = rw (le-leb h.entry.number k.entry.number (omega arith))
+lower_first : (h : Held) (x : Option Held) → Above h.entry.number x → lower h x ≡ Some h
+lower_first h None o = refl
+lower_first h (Some k) o = rw (le-leb h.entry.number k.entry.number (omega arith))
 
 module _ (p : Held → Bool) where
   above_by : (below last : ℕ) (h : Held) (hs : List Held) (b : Bool) → p h ≡ b → last < h.entry.number
@@ -90,20 +90,20 @@ module _ (p : Held → Bool) where
   above below last (h ∷ hs) o = above_by below last h hs (p h) refl o.0 (above below h.entry.number hs o.2)
 
   found_by : (below last : ℕ) (h : Held) (hs : List Held) (b : Bool) → p h ≡ b → RisingTo below last (h ∷ hs)
-      → (place_of p hs < length hs → lowest (those p hs) ≡ some (get_or hs (place_of p hs) no_held))
-      → place_of p (h ∷ hs) < length (h ∷ hs) → lowest (those p (h ∷ hs)) ≡ some (get_or (h ∷ hs) (place_of p (h ∷ hs)) no_held)
+      → (place_of p hs < length hs → lowest (those p hs) ≡ Some (get_or hs (place_of p hs) no_held))
+      → place_of p (h ∷ hs) < length (h ∷ hs) → lowest (those p (h ∷ hs)) ≡ Some (get_or (h ∷ hs) (place_of p (h ∷ hs)) no_held)
   found_by below last h hs true e o k l = rw e (lower_first h (lowest (those p hs)) (above below h.entry.number hs o.2))
   found_by below last h hs false e o k l =
       let z : place_of p (h ∷ hs) ≡ suc (place_of p hs) = rw e in
       rw e (k (omega arith))
 
   pub lowest_found : (below last : ℕ) (hs : List Held) → RisingTo below last hs → place_of p hs < length hs
-      → lowest (those p hs) ≡ some (get_or hs (place_of p hs) no_held)
+      → lowest (those p hs) ≡ Some (get_or hs (place_of p hs) no_held)
   lowest_found below last [] o l = absurd (omega arith)
   lowest_found below last (h ∷ hs) o l = found_by below last h hs (p h) refl o (lowest_found below h.entry.number hs o.2) l
 
-  none_by : (h : Held) (hs : List Held) (b : Bool) → p h ≡ b → (length hs ≤ place_of p hs → lowest (those p hs) ≡ none)
-      → length (h ∷ hs) ≤ place_of p (h ∷ hs) → lowest (those p (h ∷ hs)) ≡ none
+  none_by : (h : Held) (hs : List Held) (b : Bool) → p h ≡ b → (length hs ≤ place_of p hs → lowest (those p hs) ≡ None)
+      → length (h ∷ hs) ≤ place_of p (h ∷ hs) → lowest (those p (h ∷ hs)) ≡ None
   none_by h hs true e k l =
       let z : place_of p (h ∷ hs) ≡ 0 = rw e in
       absurd (omega arith)
@@ -111,7 +111,7 @@ module _ (p : Held → Bool) where
       let z : place_of p (h ∷ hs) ≡ suc (place_of p hs) = rw e in
       rw e (k (omega arith))
 
-  pub lowest_none : (hs : List Held) → length hs ≤ place_of p hs → lowest (those p hs) ≡ none
+  pub lowest_none : (hs : List Held) → length hs ≤ place_of p hs → lowest (those p hs) ≡ None
   lowest_none [] l = refl
   lowest_none (h ∷ hs) l = none_by h hs (p h) refl (lowest_none hs) l
 
@@ -183,7 +183,7 @@ module _ (p : Held → Bool) (f : Held → ℕ) (other below : ℕ) (l : List He
   pub value_found : RisingTo below 0 (take n l) → i ≡ place_of p (take n l) → i < n → f (get_or l i no_held) ≡ value_or f other (lowest (those p (take n l)))
   value_found o e h =
       let z = long in
-      let w : lowest (those p (take n l)) ≡ some (get_or (take n l) (place_of p (take n l)) no_held) = lowest_found p below 0 (take n l) o (omega arith) in
+      let w : lowest (those p (take n l)) ≡ Some (get_or (take n l) (place_of p (take n l)) no_held) = lowest_found p below 0 (take n l) o (omega arith) in
       ap f (sym (get_or-take n l i no_held h) ∙ ap (λ j. get_or (take n l) j no_held) e) ∙ ap (value_or f other) (sym w)
 
   pub value_none : i ≡ place_of p (take n l) → n ≤ i → other ≡ value_or f other (lowest (those p (take n l)))

@@ -1,6 +1,5 @@
 -- Pins, marks and letting go. Document 01, "Moves", paragraphs "Pins" and "Letting go".
-use Rattle.std.specs.Prelude.{ℕ, Bool, true, not, List, [], ◌∷◌, map, eqb, leb}
-use Rattle.std.proofs.Math.Option.{Option, none, some}
+use Rattle.std.specs.Prelude.{ℕ, Bool, true, not, List, [], ◌∷◌, map, eqb, leb, Option, None, Some}
 use Rattle.layout.specs.Bytes.{both}
 use Rattle.walk.specs.Walk.{slots_used}
 use Rattle.state.specs.declared.Pin.{Pin}
@@ -22,17 +21,17 @@ waits_in node h = both (reaches node h) (not (is_flushed h))
 
 -- the one with the least number
 abbrev pub lower : Held → Option Held → Option Held
-lower h none = some h
-lower h (some k) = pick (leb h.entry.number k.entry.number) (some h) (some k)
+lower h None = Some h
+lower h (Some k) = pick (leb h.entry.number k.entry.number) (Some h) (Some k)
 
 abbrev pub lowest : List Held → Option Held
-lowest [] = none
+lowest [] = None
 lowest (h ∷ hs) = lower h (lowest hs)
 
 -- a value of it, or another where there is none
 abbrev pub value_or : (Held → ℕ) → ℕ → Option Held → ℕ
-value_or f other none = other
-value_or f other (some h) = f h
+value_or f other None = other
+value_or f other (Some h) = f h
 
 abbrev pub number_of_held : Held → ℕ
 number_of_held h = h.entry.number

@@ -1,9 +1,9 @@
 -- A good walk as a chain of entries, one behind the other: what the laws of storing and of moving the head go by.
+use Rattle.std.specs.Prelude.{Option, None, Some}
 use Prim.Native.Nat.{ℕ, ◌+◌, ◌-◌, ◌≤◌, ◌<◌, ◌%◌}
 use mathlib.Core.Path.{◌≡◌, refl, sym, ap, ◌∙◌}
 use mathlib.Core.Logic.{⊎_elim}
 use mathlib.Core.List.{List, [], ◌∷◌, ◌++◌}
-use mathlib.Core.Option.{Option, none, some}
 use native.Mathlib.Omega.{arith}
 use native.Mathlib.Nat.{add-zero, zero-add, sub-zero, mod-lt}
 use lib.ListN.{length}
@@ -12,8 +12,6 @@ use Rattle.layout.proofs.Tests.{lt_or_le, never}
 use Rattle.layout.proofs.Sizes.{slots_some}
 use Rattle.walk.specs.declared.Entry.{Entry}
 use Rattle.walk.specs.declared.Cursor.{Cursor}
-use Rattle.walk.specs.declared.Step.{Step}
-use Rattle.walk.specs.declared.Step.TheVariants.{Found, Nothing}
 use Rattle.walk.specs.Entry.{entry_at}
 use Rattle.walk.specs.Walk.{step_of, step_at, pass, more, on_found, walk, slots_used, last_of, Rising}
 use Rattle.walk.proofs.Rules.{Valid, IsEntry, valid_true, step_sound, step_found}
@@ -26,30 +24,30 @@ pub data Chain (f : ℕ → ℕ) (n : ℕ) : ℕ → ℕ → ℕ → List Entry 
 
 -- ---- chains and walks
 
-pub walk_of : {f : ℕ → ℕ} {n s left last : ℕ} {es : List Entry} → Chain f n s left last es → walk f n (cursor s left last) ≡ some es
+pub walk_of : {f : ℕ → ℕ} {n s left last : ℕ} {es : List Entry} → Chain f n s left last es → walk f n (cursor s left last) ≡ Some es
 walk_of {f} {n} {s} {left} {last} done = walk_end f n (cursor s 0 last) refl
 walk_of {f} {n} {s} {left} {last} (link {e = e} at is c) =
-    let q : step_at f n (cursor s left last) ≡ Found e = ap (step_of f (cursor s left last)) at ∙ step_found f (cursor s left last) e is in
+    let q : step_at f n (cursor s left last) ≡ Some e = ap (step_of f (cursor s left last)) at ∙ step_found f (cursor s left last) e is in
     walk_step f n (cursor s left last) (omega (arith, slots_some e.length, is.fits)) ∙ rw q (ap (more e) (walk_of c))
 
-more_some : (e : Entry) (w : Option (List Entry)) (es : List Entry) → more e w ≡ some es → (ks : List Entry) × (es ≡ e ∷ ks) × (w ≡ some ks)
-more_some e none es q = never (cc)
-more_some e (some ks) es q = (ks, (cc), refl)
+more_some : (e : Entry) (w : Option (List Entry)) (es : List Entry) → more e w ≡ Some es → (ks : List Entry) × (es ≡ e ∷ ks) × (w ≡ Some ks)
+more_some e None es q = never (cc)
+more_some e (Some ks) es q = (ks, (cc), refl)
 
-on_some : (x : Step) (k : Entry → Option (List Entry)) (es : List Entry) → on_found x k ≡ some es
-    → (e : Entry) × (ks : List Entry) × (x ≡ Found e) × (es ≡ e ∷ ks) × (k e ≡ some ks)
-on_some Nothing k es q = never (cc)
-on_some (Found e) k es q = let w = more_some e (k e) es q in (e, w.0, refl, w.1, w.2)
+on_some : (x : Option Entry) (k : Entry → Option (List Entry)) (es : List Entry) → on_found x k ≡ Some es
+    → (e : Entry) × (ks : List Entry) × (x ≡ Some e) × (es ≡ e ∷ ks) × (k e ≡ Some ks)
+on_some None k es q = never (cc)
+on_some (Some e) k es q = let w = more_some e (k e) es q in (e, w.0, refl, w.1, w.2)
 
 -- a walk that finds entries took a first step and went on
-walk_some : (f : ℕ → ℕ) (n : ℕ) (c : Cursor) (es : List Entry) → 0 < c.left → walk f n c ≡ some es
-    → (e : Entry) × (ks : List Entry) × (step_at f n c ≡ Found e) × (es ≡ e ∷ ks) × (walk f n (pass c e) ≡ some ks)
+walk_some : (f : ℕ → ℕ) (n : ℕ) (c : Cursor) (es : List Entry) → 0 < c.left → walk f n c ≡ Some es
+    → (e : Entry) × (ks : List Entry) × (step_at f n c ≡ Some e) × (es ≡ e ∷ ks) × (walk f n (pass c e) ≡ Some ks)
 walk_some f n c es l q = on_some (step_at f n c) (λ e. walk f n (pass c e)) es (sym (walk_step f n c l) ∙ q)
 
-walk_none : (f : ℕ → ℕ) (n s left last : ℕ) (es : List Entry) → left ≤ 0 → walk f n (cursor s left last) ≡ some es → es ≡ []
+walk_none : (f : ℕ → ℕ) (n s left last : ℕ) (es : List Entry) → left ≤ 0 → walk f n (cursor s left last) ≡ Some es → es ≡ []
 walk_none f n s left last es l q = (cc (walk_end f n (cursor s left last) (omega arith)))
 
-pub chain_of : (es : List Entry) (f : ℕ → ℕ) (n s left last : ℕ) → walk f n (cursor s left last) ≡ some es → Chain f n s left last es
+pub chain_of : (es : List Entry) (f : ℕ → ℕ) (n s left last : ℕ) → walk f n (cursor s left last) ≡ Some es → Chain f n s left last es
 chain_of [] f n s left last q =
     ⊎_elim
     (λ l.
@@ -63,9 +61,9 @@ chain_of (x ∷ es) f n s left last q =
     let w = walk_some f n (cursor s left last) (x ∷ es) l q in
     let hx : w.0 ≡ x = (cc w.3) in
     let hk : w.1 ≡ es = (cc w.3) in
-    let rest : walk f n (pass (cursor s left last) x) ≡ some es =
-    ap (λ (e : Entry). walk f n (pass (cursor s left last) e)) (sym hx) ∙ w.4 ∙ ap some hk in
-    let y = step_sound f (cursor s left last) (entry_at f n s) x (w.2 ∙ ap Found hx) in
+    let rest : walk f n (pass (cursor s left last) x) ≡ Some es =
+    ap (λ (e : Entry). walk f n (pass (cursor s left last) e)) (sym hx) ∙ w.4 ∙ ap Some hk in
+    let y = step_sound f (cursor s left last) (entry_at f n s) x (w.2 ∙ ap Some hx) in
     link y.0 (rw y.0 at y.1) (chain_of es f n (s + slots_of x.length) (left - slots_of x.length) x.number rest))
     (λ l. never (cc (walk_none f n s left last (x ∷ es) l q)))
     (lt_or_le 0 left)

@@ -1,8 +1,8 @@
 -- The loop that collects the entries: those passed stand in the array, and what is left of the walk is still to come.
+use Rattle.std.specs.Prelude.{None, Some, Option, Ok}
 use Prim.Native.Nat.{ℕ, suc, ◌+◌, ◌-◌, ◌≤◌, ◌<◌}
 use mathlib.Core.Path.{◌≡◌, refl, sym, ap, ◌∙◌}
 use mathlib.Core.List.{List, [], ◌∷◌, ◌++◌, append_assoc, append-nil}
-use mathlib.Core.Option.{Option, none, some}
 use native.Mathlib.Omega.{arith}
 use lib.ListN.{length, set, replicate, length-append}
 use lib.Seq.{set_at}
@@ -10,8 +10,6 @@ use Rattle.layout.specs.Sizes.{slots_of, most_entries}
 use Rattle.layout.specs.declared.Ring.{Ring}
 use Rattle.layout.proofs.Sizes.{slots_some}
 use Rattle.walk.specs.declared.Entry.{Entry}
-use Rattle.walk.specs.declared.Step.TheVariants.{Found, Nothing}
-use Rattle.walk.specs.declared.Opened.TheVariants.{Readable}
 use Rattle.walk.specs.Entry.{entry_at}
 use Rattle.walk.specs.Walk.{step_at, more, walk, reads, start, answer_of, no_entry, unreadable}
 use Rattle.walk.proofs.Rules.{step_sound}
@@ -26,11 +24,11 @@ after_snoc : (es : List Entry) (e : Entry) (w : Option (List Entry)) → after (
 after_snoc [] e w = refl
 after_snoc (x ∷ es) e w = ap (more x) (after_snoc es e w)
 
-after_some : (es ks : List Entry) → after es (some ks) ≡ some (es ++ ks)
+after_some : (es ks : List Entry) → after es (Some ks) ≡ Some (es ++ ks)
 after_some [] ks = refl
 after_some (x ∷ es) ks = ap (more x) (after_some es ks)
 
-after_none : (es : List Entry) → after es none ≡ none
+after_none : (es : List Entry) → after es None ≡ None
 after_none [] = refl
 after_none (x ∷ es) = ap (more x) (after_none es)
 
@@ -48,19 +46,19 @@ module _ (f : ℕ → ℕ) (g : Ring) where
       record { passed = []; counted = refl; listed = refl; room = omega arith; where_to = refl; rest = refl }
 
   module _ (entries : List Entry) (count place left last : ℕ) (o : Collecting f g entries count place left last) where
-    pub collect_end : left ≤ 0 → record { opened = Readable g; count = count; entries = entries } ≡ answer_of (reads g (walk f g.n (start g)))
+    pub collect_end : left ≤ 0 → Ok (record { ring = g; count = count; entries = entries }) ≡ answer_of (reads g (walk f g.n (start g)))
     collect_end l =
-        let w : walk f g.n (start g) ≡ some o.passed =
-        o.rest ∙ ap (after o.passed) (walk_end f g.n (cursor place left last) (omega arith)) ∙ after_some o.passed [] ∙ ap some (append-nil o.passed) in
+        let w : walk f g.n (start g) ≡ Some o.passed =
+        o.rest ∙ ap (after o.passed) (walk_end f g.n (cursor place left last) (omega arith)) ∙ after_some o.passed [] ∙ ap Some (append-nil o.passed) in
         rw (w, o.listed, o.counted)
 
-    pub collect_none : 0 < left → step_at f g.n (cursor place left last) ≡ Nothing → answer_of unreadable ≡ answer_of (reads g (walk f g.n (start g)))
+    pub collect_none : 0 < left → step_at f g.n (cursor place left last) ≡ None → answer_of unreadable ≡ answer_of (reads g (walk f g.n (start g)))
     collect_none l q =
-        let w : walk f g.n (start g) ≡ none =
+        let w : walk f g.n (start g) ≡ None =
         o.rest ∙ ap (after o.passed) (walk_step f g.n (cursor place left last) l ∙ rw q) ∙ after_none o.passed in
         rw w
 
-    module _ (l : 0 < left) (e : Entry) (q : step_at f g.n (cursor place left last) ≡ Found e) where
+    module _ (l : 0 < left) (e : Entry) (q : step_at f g.n (cursor place left last) ≡ Some e) where
       -- an entry found ends at the tail or before it
       pub collect_fits : slots_of e.length ≤ left
       collect_fits =

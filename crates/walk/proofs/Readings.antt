@@ -1,9 +1,9 @@
 -- A ring is readable as g and es exactly where its header is g and its entries are a chain from head to tail.
+use Rattle.std.specs.Prelude.{Ok, Err, Option, None, Some}
 use Prim.Native.Nat.{ℕ, ◌+◌, ◌-◌, ◌*◌, ◌%◌, ◌≤◌, ◌<◌}
 use mathlib.Core.Path.{◌≡◌, refl, sym, ap, ◌∙◌}
 use mathlib.Core.Logic.{⊎_elim, ◌≢◌}
 use mathlib.Core.List.{List, map}
-use mathlib.Core.Option.{Option, none, some}
 use native.Mathlib.Omega.{arith}
 use native.Mathlib.Nat.{mod-lt, mod-eq_of_lt, mod-eq-sub-mod, add-mod_left}
 use lib.ListN.{length}
@@ -13,10 +13,11 @@ use Rattle.layout.specs.declared.Ring.{Ring}
 use Rattle.layout.proofs.Tests.{lt_or_le, never}
 use Rattle.layout.proofs.Views.{same_part, same_back, same_then, bytes_same, zeros_same, slot_round}
 use Rattle.layout.proofs.Puts.{sized_as}
+use Rattle.reason.specs.declared.Reason.{Reason}
+use Rattle.reason.specs.declared.Reason.TheVariants.{Unreadable}
 use Rattle.walk.specs.declared.Entry.{Entry}
-use Rattle.walk.specs.declared.Header.{Header}
-use Rattle.walk.specs.declared.Header.TheVariants.{Good, Bad}
-use Rattle.walk.specs.declared.Opened.TheVariants.{Readable as Opened-as-Readable}
+use Rattle.walk.specs.declared.Walked.{Walked}
+
 use Rattle.walk.specs.Header.{head_in, tail_in, used_of, ring_in, header_of}
 use Rattle.walk.specs.Entry.{data_of}
 use Rattle.walk.specs.Walk.{walk, start, Reading, readable, unreadable, reads, reading_by, reading_of, answer_of, slots_used, Rising, write_of}
@@ -29,13 +30,13 @@ pub record Readable (r : List ℕ) (g : Ring) (es : List Entry) : Type 0 where
   pub headed : Headed r g
   pub chain : Chain (round r g.n) g.n g.head g.used 0 es
 
-reads_some : (g g' : Ring) (w : Option (List Entry)) (es : List Entry) → reads g' w ≡ readable g es → (g' ≡ g) × (w ≡ some es)
-reads_some g g' none es q = never (cc)
-reads_some g g' (some ks) es q = ((cc), (cc))
+reads_some : (g g' : Ring) (w : Option (List Entry)) (es : List Entry) → reads g' w ≡ readable g es → (g' ≡ g) × (w ≡ Some es)
+reads_some g g' None es q = never (cc)
+reads_some g g' (Some ks) es q = ((cc), (cc))
 
-reading_by_law : (r : List ℕ) (g : Ring) (es : List Entry) (h : Header) → header_of r ≡ h → reading_by r h ≡ readable g es → Readable r g es
-reading_by_law r g es Bad e q = never (cc)
-reading_by_law r g es (Good g') e q =
+reading_by_law : (r : List ℕ) (g : Ring) (es : List Entry) (h : Option Ring) → header_of r ≡ h → reading_by r h ≡ readable g es → Readable r g es
+reading_by_law r g es None e q = never (cc)
+reading_by_law r g es (Some g') e q =
     let w = reads_some g g' (walk (round r g'.n) g'.n (start g')) es q in
     rw (← w.0)
     (record { headed = header_use r g' e; chain = chain_of es (round r g'.n) g'.n g'.head g'.used 0 w.1 })
@@ -44,8 +45,8 @@ pub reading_sound : (r : List ℕ) (g : Ring) (es : List Entry) → reading_of r
 unfolding reading_of
 reading_sound r g es q = reading_by_law r g es (header_of r) refl q
 
-pub reading_header : {r : List ℕ} {g : Ring} {es : List Entry} → Readable r g es → header_of r ≡ Good g
-reading_header {r} k = header_good r k.headed.header ∙ ap Good (sym k.headed.same)
+pub reading_header : {r : List ℕ} {g : Ring} {es : List Entry} → Readable r g es → header_of r ≡ Some g
+reading_header {r} k = header_good r k.headed.header ∙ ap Some (sym k.headed.same)
 
 pub reading_true : {r : List ℕ} {g : Ring} {es : List Entry} → Readable r g es → reading_of r ≡ readable g es
 unfolding reading_of
@@ -53,9 +54,14 @@ reading_true {r} {g} {es} k = ap (reading_by r) (reading_header k) ∙ ap (reads
 
 -- ---- the code's answer says which
 
-pub answer_readable : (x : Reading) (g : Ring) → (answer_of x).opened ≡ Opened-as-Readable g → (es : List Entry) × (x ≡ readable g es)
-answer_readable unreadable g q = never (cc)
-answer_readable (readable g' es) g q = let e : g' ≡ g = (cc) in (es, ap (λ (h : Ring). readable h es) e)
+pub answer_readable : (x : Reading) (w : Walked) → answer_of x ≡ Ok w → (es : List Entry) × (x ≡ readable w.ring es)
+answer_readable unreadable w q = never (cc)
+answer_readable (readable g es) w q = let e : g ≡ w.ring = (cc) in (es, ap (λ (h : Ring). readable h es) e)
+
+-- what it refuses is no ring
+pub answer_refused : (x : Reading) (why : Reason) → answer_of x ≡ Err why → (x ≡ unreadable) × (why ≡ Unreadable)
+answer_refused unreadable why q = (refl, (cc))
+answer_refused (readable g es) why q = never (cc)
 
 -- ---- head, tail and the slots used
 

@@ -1,4 +1,5 @@
 -- The rules of header, fields and step: a test holds where its facts do, and only there.
+use Rattle.std.specs.Prelude.{None, Option, Some}
 use Prim.Native.Nat.{ℕ, ◌+◌, ◌-◌, ◌*◌, ◌%◌, ◌≤◌, ◌<◌}
 use mathlib.Core.Path.{◌≡◌, refl, ap, ◌∙◌}
 use mathlib.Core.List.{List}
@@ -14,9 +15,6 @@ use Rattle.layout.proofs.Tests.{both_left, both_right, not_true_false, sized_tru
 use Rattle.layout.proofs.Views.{same_part, same_back, number2_same, number4_same, number8_same, zeros_same, slot_flat}
 use Rattle.walk.specs.declared.Entry.{Entry}
 use Rattle.walk.specs.declared.Cursor.{Cursor}
-use Rattle.walk.specs.declared.Step.TheVariants.{Found, Nothing}
-use Rattle.walk.specs.declared.Header.{Header}
-use Rattle.walk.specs.declared.Header.TheVariants.{Good, Bad}
 use Rattle.walk.specs.Header.{slots_in, head_in, tail_in, is_header, used_of, ring_in, pick_header, header_of}
 use Rattle.walk.specs.Entry.{head_at, valid_fields, filler}
 use Rattle.walk.specs.Walk.{is_entry, pick_step, step_of}
@@ -50,15 +48,15 @@ header_sound r e =
       zeros = both_right _ _ e3;
     }
 
-pub header_bad : (r : List ℕ) → (IsHeader r → ⊥) → header_of r ≡ Bad
+pub header_bad : (r : List ℕ) → (IsHeader r → ⊥) → header_of r ≡ None
 unfolding header_of pick_header
 header_bad r k = rw (not_true_false (is_header r) (λ e. k (header_sound r e)))
 
-pub header_good : (r : List ℕ) → IsHeader r → header_of r ≡ Good (ring_in r)
+pub header_good : (r : List ℕ) → IsHeader r → header_of r ≡ Some (ring_in r)
 unfolding header_of pick_header
 header_good r h = rw (header_true r h)
 
-good_true : (b : Bool) (x : Header) (g : Ring) → pick_header b x ≡ Good g → b ≡ true
+good_true : (b : Bool) (x : Option Ring) (g : Ring) → pick_header b x ≡ Some g → b ≡ true
 unfolding pick_header
 good_true true x g e = refl
 good_true false x g e = never (cc)
@@ -84,7 +82,7 @@ header_headed r h =
       used = used_below (slots_in r) (head_in r) (tail_in r) h.head;
     }
 
-pub header_use : (r : List ℕ) (g : Ring) → header_of r ≡ Good g → Headed r g
+pub header_use : (r : List ℕ) (g : Ring) → header_of r ≡ Some g → Headed r g
 unfolding header_of
 header_use r g q =
     let h = header_sound r (good_true _ _ g q) in
@@ -167,21 +165,21 @@ module _ (f : ℕ → ℕ) (c : Cursor) (e : Entry) where
         filled = both_right _ _ t2;
       }
 
-  pub step_found : IsEntry f c e → step_of f c e ≡ Found e
+  pub step_found : IsEntry f c e → step_of f c e ≡ Some e
   unfolding pick_step
   step_found h = rw (entry_true h)
 
-  pub step_nothing : (IsEntry f c e → ⊥) → step_of f c e ≡ Nothing
+  pub step_nothing : (IsEntry f c e → ⊥) → step_of f c e ≡ None
   unfolding pick_step
   step_nothing k = rw (not_true_false (is_entry f c e) (λ t. k (entry_sound t)))
 
-  found_true : (b : Bool) (e' : Entry) → pick_step b e ≡ Found e' → (b ≡ true) × (e ≡ e')
+  found_true : (b : Bool) (e' : Entry) → pick_step b e ≡ Some e' → (b ≡ true) × (e ≡ e')
   unfolding pick_step
   found_true true e' q = (refl, (cc))
   found_true false e' q = never (cc)
 
   -- a step finds the entry at its place or none
-  pub step_sound : (e' : Entry) → step_of f c e ≡ Found e' → (e ≡ e') × IsEntry f c e
+  pub step_sound : (e' : Entry) → step_of f c e ≡ Some e' → (e ≡ e') × IsEntry f c e
   step_sound e' q = let w = found_true (is_entry f c e) e' q in (w.1, entry_sound w.0)
 
 -- the filler stands in the entry's last slot, and so in a run of the buffer

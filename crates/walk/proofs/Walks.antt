@@ -1,9 +1,9 @@
 -- The walk, by two equations: it ends where no slot is left, and else takes a step. Nothing above these two looks at
 -- the count of steps. And the law of views: a walk over the same bytes is the same walk.
+use Rattle.std.specs.Prelude.{Option, None, Some}
 use Prim.Native.Nat.{ℕ, zero, suc, ◌+◌, ◌-◌, ◌*◌, ◌%◌, ◌≤◌, ◌<◌}
 use mathlib.Core.Path.{◌≡◌, refl, sym, ap, ◌∙◌}
 use mathlib.Core.List.{List, []}
-use mathlib.Core.Option.{Option, some}
 use mathlib.Core.Bool.{Bool}
 use native.Mathlib.Omega.{arith}
 use native.Mathlib.Nat.{mod-add-mod}
@@ -15,24 +15,22 @@ use Rattle.layout.proofs.Tests.{both_ext}
 use Rattle.layout.proofs.Sizes.{slots_some}
 use Rattle.walk.specs.declared.Entry.{Entry}
 use Rattle.walk.specs.declared.Cursor.{Cursor}
-use Rattle.walk.specs.declared.Step.{Step}
-use Rattle.walk.specs.declared.Step.TheVariants.{Found, Nothing}
 use Rattle.walk.specs.Entry.{head_at, entry_at, filler}
 use Rattle.walk.specs.Walk.{is_entry, pick_step, step_of, step_at, pass, more, on_found, unless_done, walk_in, walk}
 use Rattle.walk.proofs.Rules.{head_same, step_sound}
 
 -- ---- the two equations
 
-pub on_found_law : (k₁ k₂ : Entry → Option (List Entry)) (x : Step) → ((e : Entry) → x ≡ Found e → k₁ e ≡ k₂ e) → on_found x k₁ ≡ on_found x k₂
-on_found_law k₁ k₂ Nothing q = refl
-on_found_law k₁ k₂ (Found e) q = ap (more e) (q e refl)
+pub on_found_law : (k₁ k₂ : Entry → Option (List Entry)) (x : Option Entry) → ((e : Entry) → x ≡ Some e → k₁ e ≡ k₂ e) → on_found x k₁ ≡ on_found x k₂
+on_found_law k₁ k₂ None q = refl
+on_found_law k₁ k₂ (Some e) q = ap (more e) (q e refl)
 
 unless_ext : (left : ℕ) (x y : Option (List Entry)) → (0 < left → x ≡ y) → unless_done left x ≡ unless_done left y
 unless_ext zero x y k = refl
 unless_ext (suc left) x y k = k (omega arith)
 
 -- a step leaves fewer slots
-pass_less : (f : ℕ → ℕ) (n : ℕ) (c : Cursor) (e : Entry) → 0 < c.left → step_at f n c ≡ Found e → (pass c e).left < c.left
+pass_less : (f : ℕ → ℕ) (n : ℕ) (c : Cursor) (e : Entry) → 0 < c.left → step_at f n c ≡ Some e → (pass c e).left < c.left
 pass_less f n c e l q = omega (arith, slots_some e.length)
 
 enough : (m k : ℕ) (f : ℕ → ℕ) (n : ℕ) (c : Cursor) → c.left ≤ m → c.left ≤ k → walk_in m f n c ≡ walk_in k f n c
@@ -45,7 +43,7 @@ enough (suc m) (suc k) f n c a b =
     (λ l. on_found_law _ _ (step_at f n c)
     (λ e q. let w = pass_less f n c e l q in enough m k f n (pass c e) (omega arith) (omega arith)))
 
-pub walk_end : (f : ℕ → ℕ) (n : ℕ) (c : Cursor) → c.left ≡ 0 → walk f n c ≡ some []
+pub walk_end : (f : ℕ → ℕ) (n : ℕ) (c : Cursor) → c.left ≡ 0 → walk f n c ≡ Some []
 unfolding walk walk_in
 walk_end f n c z = rw z
 
@@ -110,7 +108,7 @@ in_same (suc m) n f s g t left last k =
     let h : slots_of e.length ≤ left = rw (ap (λ (x : Entry). slots_of x.length) w.0) at w.1.fits in
     in_same m n f (s + slots_of e.length) g (t + slots_of e.length) (left - slots_of e.length) e.number
     (slots_rest k (slots_of e.length) (left - slots_of e.length) (omega arith)))
-    ∙ ap (λ (x : Step). on_found x (λ e. walk_in m g n (pass (cursor t left last) e))) (step_same n f s g t left last k l))
+    ∙ ap (λ (x : Option Entry). on_found x (λ e. walk_in m g n (pass (cursor t left last) e))) (step_same n f s g t left last k l))
 
 pub walk_same : (n : ℕ) (f : ℕ → ℕ) (s : ℕ) (g : ℕ → ℕ) (t left last : ℕ) → Slots n f s g t left
     → walk f n (cursor s left last) ≡ walk g n (cursor t left last)

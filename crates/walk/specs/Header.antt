@@ -1,10 +1,8 @@
 -- The header of a ring. Document 01, "The ring in battery memory", first table.
-use Rattle.std.specs.Prelude.{ℕ, ◌+◌, ◌-◌, ◌%◌, List, Bool, true, false, length, eqb, ltb}
+use Rattle.std.specs.Prelude.{ℕ, ◌+◌, ◌-◌, ◌%◌, List, Bool, true, false, length, eqb, ltb, None, Option, Some}
 use Rattle.layout.specs.Sizes.{edition}
 use Rattle.layout.specs.Bytes.{flat, both, is_ring_length, zeros_at}
 use Rattle.layout.specs.declared.Ring.{Ring}
-use Rattle.walk.specs.declared.Header.{Header}
-use Rattle.walk.specs.declared.Header.TheVariants.{Good, Bad}
 
 -- N, head and tail as bytes 1, 2 and 3 hold them
 abbrev pub slots_in : List ℕ → ℕ
@@ -32,9 +30,9 @@ used_of n head tail = (n + tail - head) % n
 abbrev pub ring_in : List ℕ → Ring
 ring_in r = record { n = slots_in r; head = head_in r; used = used_of (slots_in r) (head_in r) (tail_in r) }
 
-unfoldable pub pick_header : Bool → Header → Header
+unfoldable pub pick_header : Bool → Option Ring → Option Ring
 pick_header true a = a
-pick_header false a = Bad
+pick_header false a = None
 
-unfoldable pub header_of : List ℕ → Header
-header_of r = pick_header (is_header r) (Good (ring_in r))
+unfoldable pub header_of : List ℕ → Option Ring
+header_of r = pick_header (is_header r) (Some (ring_in r))

@@ -1,18 +1,13 @@
 -- The walk from head to tail, and what a ring that can be read holds.
 -- Document 01, "The ring in battery memory", from "It walks from head".
-use Rattle.std.specs.Prelude.{ℕ, zero, suc, ◌+◌, ◌-◌, ◌<◌, ◌≡◌, List, [], ◌∷◌, ◌++◌, map, Bool, true, false, length, replicate, ltb, leb}
-use Rattle.std.proofs.Math.Option.{Option, none, some}
+use Rattle.std.specs.Prelude.{ℕ, zero, suc, ◌+◌, ◌-◌, ◌<◌, ◌≡◌, List, [], ◌∷◌, ◌++◌, map, Bool, true, false, length, replicate, ltb, leb, Option, None, Some, Result, Ok, Err}
+use Rattle.reason.specs.declared.Reason.{Reason}
 use Rattle.reason.specs.declared.Reason.TheVariants.{Unreadable}
 use Rattle.layout.specs.Sizes.{slots_of, most_entries}
 use Rattle.layout.specs.Bytes.{round, both}
 use Rattle.layout.specs.declared.Ring.{Ring}
 use Rattle.walk.specs.declared.Entry.{Entry}
 use Rattle.walk.specs.declared.Cursor.{Cursor}
-use Rattle.walk.specs.declared.Step.{Step}
-use Rattle.walk.specs.declared.Step.TheVariants.{Found, Nothing}
-use Rattle.walk.specs.declared.Header.{Header}
-use Rattle.walk.specs.declared.Header.TheVariants.{Good, Bad}
-use Rattle.walk.specs.declared.Opened.TheVariants.{Readable, Refused}
 use Rattle.walk.specs.declared.Walked.{Walked}
 use Rattle.walk.specs.Header.{header_of}
 use Rattle.walk.specs.Entry.{entry_at, valid_fields, filler, data_of}
@@ -27,14 +22,14 @@ is_entry f c e =
     (both (leb (slots_of e.length) c.left)
     (filler f c.place e.length)))
 
-unfoldable pub pick_step : Bool → Entry → Step
-pick_step true e = Found e
-pick_step false e = Nothing
+unfoldable pub pick_step : Bool → Entry → Option Entry
+pick_step true e = Some e
+pick_step false e = None
 
-abbrev pub step_of : (ℕ → ℕ) → Cursor → Entry → Step
+abbrev pub step_of : (ℕ → ℕ) → Cursor → Entry → Option Entry
 step_of f c e = pick_step (is_entry f c e) e
 
-abbrev pub step_at : (ℕ → ℕ) → ℕ → Cursor → Step
+abbrev pub step_at : (ℕ → ℕ) → ℕ → Cursor → Option Entry
 step_at f n c = step_of f c (entry_at f n c.place)
 
 -- the place after an entry
@@ -49,20 +44,20 @@ pass c e =
 -- ---- the walk: steps until no slot is left; none as soon as a step yields no entry
 
 abbrev pub more : Entry → Option (List Entry) → Option (List Entry)
-more e none = none
-more e (some es) = some (e ∷ es)
+more e None = None
+more e (Some es) = Some (e ∷ es)
 
-abbrev pub on_found : Step → (Entry → Option (List Entry)) → Option (List Entry)
-on_found Nothing k = none
-on_found (Found e) k = more e (k e)
+abbrev pub on_found : Option Entry → (Entry → Option (List Entry)) → Option (List Entry)
+on_found None k = None
+on_found (Some e) k = more e (k e)
 
 abbrev pub unless_done : ℕ → Option (List Entry) → Option (List Entry)
-unless_done zero w = some []
+unless_done zero w = Some []
 unless_done (suc left) w = w
 
 -- in at most m steps
 unfoldable pub walk_in : ℕ → (ℕ → ℕ) → ℕ → Cursor → Option (List Entry)
-walk_in zero f n c = some []
+walk_in zero f n c = Some []
 walk_in (suc m) f n c = unless_done c.left (on_found (step_at f n c) (λ e. walk_in m f n (pass c e)))
 
 -- an entry takes a slot at least, so the slots left are steps enough (`walk_end` and `walk_step` are the equations to go by)
@@ -76,15 +71,15 @@ pub data Reading : Type 0 where
   unreadable : Reading
 
 abbrev pub reads : Ring → Option (List Entry) → Reading
-reads g none = unreadable
-reads g (some es) = readable g es
+reads g None = unreadable
+reads g (Some es) = readable g es
 
 abbrev pub start : Ring → Cursor
 start g = record { place = g.head; left = g.used; last = 0 }
 
-abbrev pub reading_by : List ℕ → Header → Reading
-reading_by r Bad = unreadable
-reading_by r (Good g) = reads g (walk (round r g.n) g.n (start g))
+abbrev pub reading_by : List ℕ → Option Ring → Reading
+reading_by r None = unreadable
+reading_by r (Some g) = reads g (walk (round r g.n) g.n (start g))
 
 unfoldable pub reading_of : List ℕ → Reading
 reading_of r = reading_by r (header_of r)
@@ -110,9 +105,9 @@ abbrev pub no_entry : Entry
 no_entry = record { number = 0; node = 0; handle = 0; offset = 0; length = 0; zero = 0; slot = 0 }
 
 -- the entries in order, and nothing behind them
-abbrev pub answer_of : Reading → Walked
-answer_of unreadable = record { opened = Refused Unreadable; count = 0; entries = replicate most_entries no_entry }
-answer_of (readable g es) = record { opened = Readable g; count = length es; entries = es ++ replicate (most_entries - length es) no_entry }
+abbrev pub answer_of : Reading → Result Walked Reason
+answer_of unreadable = Err Unreadable
+answer_of (readable g es) = Ok (record { ring = g; count = length es; entries = es ++ replicate (most_entries - length es) no_entry })
 
 -- ---- the writes that a ring holds
 
@@ -131,8 +126,8 @@ abbrev pub write_of : (ℕ → ℕ) → Entry → Write
 write_of f e = written e (data_of f e)
 
 abbrev pub writes_by : List ℕ → Reading → Option (List Write)
-writes_by r unreadable = none
-writes_by r (readable g es) = some (map (write_of (round r g.n)) es)
+writes_by r unreadable = None
+writes_by r (readable g es) = Some (map (write_of (round r g.n)) es)
 
 -- none where the ring isn't readable
 abbrev pub writes_of : List ℕ → Option (List Write)

@@ -49,63 +49,43 @@ pub struct Cursor {
     pub last: u64,
 }
 
-// What a step of the walk yields.
-#[derive(Clone, Copy)]
-pub enum Step {
-    Found(Entry),
-    Nothing,
-}
-
-#[derive(Clone, Copy)]
-pub enum Header {
-    Good(Ring),
-    Bad,
-}
-
-// Whether the bytes are a ring; the only refusal is Unreadable.
-#[derive(Clone, Copy)]
-pub enum Opened {
-    Readable(Ring),
-    Refused(Reason),
-}
-
-// The walk's answer, with the entries beside it: count of them, oldest first, and zeros behind them.
+// A ring that can be read, with its entries: count of them, oldest first, and zeros behind them.
 #[derive(Clone, Copy)]
 pub struct Walked {
-    pub opened: Opened,
+    pub ring: Ring,
     pub count: usize,
     pub entries: [Entry; Ring::ENTRIES],
 }
 
 // The header, if the bytes have one and are as long as it says.
-pub fn header_of(bytes: &[u8]) -> Header
+pub fn header_of(bytes: &[u8]) -> Option<Ring>
     ensures { result ≡ header_of bytes.now }
 {
     if bytes.len() < Ring::HEADER {
-        return Header::Bad;
+        return None;
     }
     let n = layout::byte_at(bytes, 1) as usize;
     let head = layout::byte_at(bytes, 2) as usize;
     let tail = layout::byte_at(bytes, 3) as usize;
     if n < Ring::FEWEST {
-        return Header::Bad;
+        return None;
     }
     if bytes.len() != Ring::HEADER + n * Ring::SLOT {
-        return Header::Bad;
+        return None;
     }
     if bytes[0] != Ring::EDITION {
-        return Header::Bad;
+        return None;
     }
     if n <= head {
-        return Header::Bad;
+        return None;
     }
     if n <= tail {
-        return Header::Bad;
+        return None;
     }
     if !layout::zeros_at(bytes, 4, 12) {
-        return Header::Bad;
+        return None;
     }
-    Header::Good(Ring {
+    Some(Ring {
         n,
         head,
         used: (n + tail - head) % n,
@@ -185,7 +165,7 @@ fn filler_at(bytes: &[u8], n: usize, place: usize, length: u32) -> bool
 }
 
 // One step of the walk.
-pub fn step_at(bytes: &[u8], ring: Ring, at: Cursor) -> Step
+pub fn step_at(bytes: &[u8], ring: Ring, at: Cursor) -> Option<Entry>
     requires sized { Sized bytes.now ring.n }
     requires place_bound { at.place < most_slots + most_slots }
     ensures { result ≡ step_at (round bytes.now ring.n) ring.n at }
@@ -194,18 +174,18 @@ pub fn step_at(bytes: &[u8], ring: Ring, at: Cursor) -> Step
     let place = at.place;
     let entry = entry_at(bytes, n, place);
     if !valid_fields(entry) {
-        return Step::Nothing;
+        return None;
     }
     if entry.number <= at.last {
-        return Step::Nothing;
+        return None;
     }
     if at.left < Ring::slots(entry.length) {
-        return Step::Nothing;
+        return None;
     }
     if !filler_at(bytes, n, place, entry.length) {
-        return Step::Nothing;
+        return None;
     }
-    Step::Found(entry)
+    Some(entry)
 }
 
 // What stands where there is no entry.
@@ -230,20 +210,8 @@ fn no_entries() -> [Entry; Ring::ENTRIES]
     [entry; Ring::ENTRIES]
 }
 
-// The answer for bytes that are no ring.
-fn refused() -> Walked
-    ensures { result ≡ answer_of unreadable }
-{
-    let entries = no_entries();
-    Walked {
-        opened: Opened::Refused(Reason::Unreadable),
-        count: 0,
-        entries,
-    }
-}
-
 // The walk from head: where a step yields no entry short of the tail, the answer is no at once.
-fn collect(bytes: &[u8], ring: Ring) -> Walked
+fn collect(bytes: &[u8], ring: Ring) -> Result<Walked, Reason>
     requires sized { Sized bytes.now ring.n }
     requires head_lt_n { (ring.head < ring.n) × (ring.used < ring.n) }
     ensures { result ≡ answer_of (reads ring (walk (round bytes.now ring.n) ring.n (start ring))) }
@@ -255,8 +223,8 @@ fn collect(bytes: &[u8], ring: Ring) -> Walked
     let mut last = 0;
     while 0 < left {
         let step = step_at(bytes, ring, Cursor { place, left, last });
-        let Step::Found(entry) = step else {
-            return refused();
+        let Some(entry) = step else {
+            return Err(Reason::Unreadable);
         };
         let slots = Ring::slots(entry.length);
         entries[count] = entry;
@@ -265,21 +233,18 @@ fn collect(bytes: &[u8], ring: Ring) -> Walked
         left -= slots;
         last = entry.number;
     }
-    Walked {
-        opened: Opened::Readable(ring),
+    Ok(Walked {
+        ring,
         count,
         entries,
-    }
+    })
 }
 
-// What the bytes hold, whatever they are.
-pub fn read(bytes: &[u8]) -> Walked
+// What the bytes hold, whatever they are; the only refusal is Unreadable.
+pub fn read(bytes: &[u8]) -> Result<Walked, Reason>
     ensures { result ≡ answer_of (reading_of bytes.now) }
 {
-    let header = header_of(bytes);
-    let Header::Good(ring) = header else {
-        return refused();
-    };
+    let ring = header_of(bytes).ok_or(Reason::Unreadable)?;
     collect(bytes, ring)
 }
 

@@ -1,6 +1,6 @@
 -- `plan::step_entry` meets its contract. A step that finds its ring may be made (Waiting, `store_safe`); one that doesn't stores nothing.
+use Rattle.std.specs.Prelude.{Ok}
 use mathlib.Core.Path.{sym, ap, ◌∙◌}
-use Rattle.plan.specs.declared.Stepped.TheVariants.{Stored}
 use Rattle.plan.proofs.Waiting.{store_safe, said_yes, said_no, left_yes, left_no}
 use native.Mathlib.Omega.{arith}
 use Rattle.plan.proofs.step_entry.Goals as goal
@@ -21,4 +21,4 @@ span_at-requires c = let o = store_safe c.args.plan c.args.bytes.now _ (sym c.st
 
 pub returns : goal.returns
 returns c = let w = sym c.store_waits.ensures ∙ c.if-not-store_waits.false in
-    record { answer = ap Stored c.span_at.ensures ∙ said_yes _ _ w; bytes = c.store_step.ensures ∙ left_yes _ _ _ w }
+    record { answer = ap Ok c.span_at.ensures ∙ said_yes _ _ w; bytes = c.store_step.ensures ∙ left_yes _ _ _ w }

@@ -6,34 +6,34 @@ use native.Mathlib.Omega.{arith}
 use Rattle.plan.proofs.store_waits.Goals as goal
 
 pub returns-in_default : goal.returns-in_default
-returns-in_default c = store_bad c.args.plan _ _ (sym c.header_of-header.ensures ∙ c.in_default.is)
+returns-in_default c = store_bad c.args.plan _ _ (sym c.header_of.ensures ∙ c.in_default.is)
 
 pub returns-then-ring-plan : goal.returns-then-ring-plan
-returns-then-ring-plan c = store_no c.args.plan _ _ (sym c.header_of-header.ensures ∙ c.in-Good.is) _ (λ o. c.if-ring-plan.true o.slots)
+returns-then-ring-plan c = store_no c.args.plan _ _ (sym c.header_of.ensures ∙ c.in-Some.is) _ (λ o. c.if-ring-plan.true o.slots)
 
 pub returns-then-src-entry : goal.returns-then-src-entry
-returns-then-src-entry c = store_no c.args.plan _ _ (sym c.header_of-header.ensures ∙ c.in-Good.is) _ (λ o. c.if-src-entry.true o.bytes)
+returns-then-src-entry c = store_no c.args.plan _ _ (sym c.header_of.ensures ∙ c.in-Some.is) _ (λ o. c.if-src-entry.true o.bytes)
 
 pub returns-then-entry-gt-LARGEST : goal.returns-then-entry-gt-LARGEST
-returns-then-entry-gt-LARGEST c = store_no c.args.plan _ _ (sym c.header_of-header.ensures ∙ c.in-Good.is) _ (λ o. let h = o.most in let w : ⊥ = omega (arith, c.if-entry-gt-LARGEST.true) in w)
+returns-then-entry-gt-LARGEST c = store_no c.args.plan _ _ (sym c.header_of.ensures ∙ c.in-Some.is) _ (λ o. let h = o.most in let w : ⊥ = omega (arith, c.if-entry-gt-LARGEST.true) in w)
 
 pub overflow_add-ring : goal.overflow_add-ring
-overflow_add-ring c = let k = header_use c.args.bytes.now _ (sym c.header_of-header.ensures ∙ c.in-Good.is) in
+overflow_add-ring c = let k = header_use c.args.bytes.now _ (sym c.header_of.ensures ∙ c.in-Some.is) in
     let h = k.head in
     let u = k.used in
     let z = k.sized.high in
     omega arith
 
 pub around-requires : goal.around-requires
-around-requires c = let k = header_use c.args.bytes.now _ (sym c.header_of-header.ensures ∙ c.in-Good.is) in
+around-requires c = let k = header_use c.args.bytes.now _ (sym c.header_of.ensures ∙ c.in-Some.is) in
     let h = k.head in
     omega arith
 
 pub returns-then-around-entry : goal.returns-then-around-entry
-returns-then-around-entry c = store_no c.args.plan _ _ (sym c.header_of-header.ensures ∙ c.in-Good.is) _ (λ o. c.if-around-entry.true (c.around.ensures ∙ o.tail))
+returns-then-around-entry c = store_no c.args.plan _ _ (sym c.header_of.ensures ∙ c.in-Some.is) _ (λ o. c.if-around-entry.true (c.around.ensures ∙ o.tail))
 
 pub overflow_add-ring-2 : goal.overflow_add-ring-2
-overflow_add-ring-2 c = let k = header_use c.args.bytes.now _ (sym c.header_of-header.ensures ∙ c.in-Good.is) in
+overflow_add-ring-2 c = let k = header_use c.args.bytes.now _ (sym c.header_of.ensures ∙ c.in-Some.is) in
     let u = k.used in
     let z = k.sized.high in
     let s = c.slots.ensures in
@@ -41,8 +41,8 @@ overflow_add-ring-2 c = let k = header_use c.args.bytes.now _ (sym c.header_of-h
 
 pub returns-then-ring-slots : goal.returns-then-ring-slots
 returns-then-ring-slots c = let s = c.slots.ensures in
-    store_no c.args.plan _ _ (sym c.header_of-header.ensures ∙ c.in-Good.is) _ (λ o. let h = o.room in let w : ⊥ = omega (arith, c.if-ring-slots.true) in w)
+    store_no c.args.plan _ _ (sym c.header_of.ensures ∙ c.in-Some.is) _ (λ o. let h = o.room in let w : ⊥ = omega (arith, c.if-ring-slots.true) in w)
 
 pub returns : goal.returns
 returns c = let s = c.slots.ensures in
-    sym (store_yes c.args.plan _ _ (sym c.header_of-header.ensures ∙ c.in-Good.is) _ (record { slots = omega (arith, c.if-ring-plan.false); bytes = omega (arith, c.if-src-entry.false); most = omega (arith, c.if-entry-gt-LARGEST.false); tail = sym c.around.ensures ∙ c.if-around-entry.false; room = omega (arith, c.if-ring-slots.false) }))
+    sym (store_yes c.args.plan _ _ (sym c.header_of.ensures ∙ c.in-Some.is) _ (record { slots = omega (arith, c.if-ring-plan.false); bytes = omega (arith, c.if-src-entry.false); most = omega (arith, c.if-entry-gt-LARGEST.false); tail = sym c.around.ensures ∙ c.if-around-entry.false; room = omega (arith, c.if-ring-slots.false) }))
