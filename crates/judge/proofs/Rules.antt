@@ -1,11 +1,12 @@
 -- "State fits" as a record of its clauses, and what each test of the judge comes to.
-use Prim.Native.Nat.{ℕ, ◌≤◌}
+use Prim.Native.Nat.{ℕ, ◌≤◌, ◌-◌}
+use Rattle.std.specs.Prelude.{Result, Ok, Err}
 use mathlib.Core.Path.{◌≡◌, refl, sym, ◌∙◌, ap}
 use mathlib.Core.Bool.{Bool, true, false}
-use mathlib.Core.List.{List}
+use mathlib.Core.List.{List, ◌++◌}
 use native.Mathlib.Omega.{arith}
 use borrow.Author.Tests.{eqb-true, eq-eqb}
-use lib.ListN.{length, take, get_or}
+use lib.ListN.{length, take, get_or, replicate}
 use lib.Seq.{length-take-le, take_at}
 use lib.Dec.{eqb}
 use Rattle.layout.specs.Sizes.{most_entries}
@@ -13,21 +14,19 @@ use Rattle.layout.specs.Bytes.{both}
 use Rattle.layout.specs.declared.Ring.{Ring}
 use Rattle.layout.proofs.Tests.{both_left, both_right, both_ext, not_true_false, never}
 use Rattle.reason.specs.declared.Reason.{Reason}
-use Rattle.reason.specs.declared.Reason.TheVariants.{Unreadable, StateUnfit}
+use Rattle.reason.specs.declared.Reason.TheVariants.{StateUnfit}
 use Rattle.walk.specs.declared.Entry.{Entry}
-use Rattle.walk.specs.declared.Opened.TheVariants.{Readable, Refused}
-use Rattle.walk.specs.Walk.{Rising, Reading, readable, unreadable, answer_of, reading_of}
+use Rattle.walk.specs.Walk.{Rising, no_entry, Reading, readable, unreadable, answer_of, reading_of}
 use Rattle.walk.specs.declared.Walked.{Walked}
-use Rattle.walk.proofs.Readings.{answer_readable, reading_sound, entries_few, entries_rise}
+use Rattle.walk.proofs.Readings.{answer_refused, reading_sound, entries_few, entries_rise}
 use Rattle.state.specs.declared.State.{State}
 use Rattle.state.specs.declared.Held.{Held}
 use Rattle.state.specs.Lists.{any, all, holding, listed, no_held, phase_fits}
 use Rattle.state.proofs.Bools.{both_intro, both_known}
 use Rattle.state.proofs.Loops.{filled_long}
-use Rattle.judge.specs.declared.Verdict.TheVariants.{Fits}
 use Rattle.judge.specs.declared.Seen.{Seen}
 use Rattle.judge.specs.Fits.{list_fits, next_fits, pins_fit, is_in_flight, held_fits, fits}
-use Rattle.judge.specs.Answers.{SeenWell, judged_no, judged_of}
+use Rattle.judge.specs.Answers.{SeenWell, judged_of}
 use Rattle.judge.proofs.Fitting.{list_length, holding_length, holding_phases, Upto}
 
 pub record IsFit (es : List Entry) (s : State) : Type 0 where
@@ -57,7 +56,7 @@ module _ (es : List Entry) (s : State) where
         held = both_right (pins_fit s.next s.pins) _ c;
       }
 
-  pub unfit : (g : Ring) → fits es s ≡ false → judged_no StateUnfit ≡ judged_of (readable g es) s
+  pub unfit : (g : Ring) → fits es s ≡ false → Err StateUnfit ≡ judged_of (readable g es) s
   unfit g k = rw k
 
 -- the judge goes by the walk's count, which is the state's once that is tested
@@ -109,25 +108,28 @@ module _ (entries : List Entry) (n : ℕ) (s : State) (m : n ≤ length entries)
           ∙ ap (λ x. both x (both (next_fits s.next s.flush) (both (pins_fit s.next s.pins) (held_fits s (holding (take n entries) (take n s.writes)))))) u.matched
           ∙ sym (both_known _ _ (eq-eqb _ _ (e ∙ sym long)) ∙ rw same)
 
-      pub judge_fits : (g : Ring) → fits (take n entries) s ≡ true → record { verdict = Fits g; count = n; held = held } ≡ judged_of (readable g (take n entries)) s
+      pub judge_fits : (g : Ring) → fits (take n entries) s ≡ true → Ok (record { ring = g; count = n; held = held }) ≡ judged_of (readable g (take n entries)) s
       judge_fits g q = rw (q, long, u.held, same)
+
+ok_same : {A B : Type 0} (x y : A) → ◌≡◌ {A = Result A B} (Ok x) (Ok y) → x ≡ y
+ok_same x y e = cc
 
 -- ---- from the walk's answer to the reading
 
-pub read_entries : (x : Reading) (w : Walked) (g : Ring) → w ≡ answer_of x → w.opened ≡ Readable g → x ≡ readable g (take w.count w.entries)
-read_entries x w g e o =
-    let k = answer_readable x g (ap (λ v. v.opened) (sym e) ∙ o) in
-    k.1 ∙ ap (readable g) (sym (ap (λ v. take v.count v.entries) (e ∙ ap answer_of k.1) ∙ take_at k.0 _ (length k.0) refl))
+pub read_entries : (x : Reading) (w : Walked) → Ok w ≡ answer_of x → x ≡ readable w.ring (take w.count w.entries)
+read_entries unreadable w e = never (cc)
+read_entries (readable g es) w e =
+    let q : record { ring = g; count = length es; entries = es ++ replicate (most_entries - length es) no_entry } ≡ w = cc in
+    rw (← q) (ap (readable g) (sym (take_at es _ (length es) refl)))
 
-pub read_refused : (x : Reading) (w : Walked) (why : Reason) (s : State) → w ≡ answer_of x → w.opened ≡ Refused why → judged_no Unreadable ≡ judged_of x s
-read_refused unreadable w why s e o = refl
-read_refused (readable g es) w why s e o = never (cc)
+pub read_refused : (x : Reading) (why : Reason) (s : State) → Err why ≡ answer_of x → Err why ≡ judged_of x s
+read_refused unreadable why s e = rw (answer_refused unreadable why (sym e)).1 refl
+read_refused (readable g es) why s e = never (cc)
 
-pub walked_few : (r : List ℕ) (w : Walked) (g : Ring) → w ≡ answer_of (reading_of r) → w.opened ≡ Readable g
-    → (w.count ≤ most_entries) × Rising 0 (take w.count w.entries)
-walked_few r w g e o =
-    let q = read_entries (reading_of r) w g e o in
-    let a = answer_readable (reading_of r) g (ap (λ v. v.opened) (sym e) ∙ o) in
-    let c : w.count ≡ length a.0 = ap (λ v. v.count) (e ∙ ap answer_of a.1) in
-    let f = entries_few (reading_sound r g a.0 a.1) in
-    (omega arith, entries_rise (reading_sound r g (take w.count w.entries) q))
+pub walked_few : (r : List ℕ) (w : Walked) → Ok w ≡ answer_of (reading_of r) → (w.count ≤ most_entries) × Rising 0 (take w.count w.entries)
+walked_few r w e =
+    let q = read_entries (reading_of r) w e in
+    let k = reading_sound r w.ring (take w.count w.entries) q in
+    let c : w.count ≡ length (take w.count w.entries) = (ap (λ v. v.count) (ok_same _ _ (e ∙ ap answer_of q))) in
+    let f = entries_few k in
+    (omega arith, entries_rise k)

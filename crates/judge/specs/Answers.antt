@@ -1,5 +1,5 @@
 -- The judge's answer: 8 and 12 from one walk, and the held writes with nothing behind them.
-use Rattle.std.specs.Prelude.{ℕ, ◌≤◌, ◌≡◌, true, List, [], length, get_or, take}
+use Rattle.std.specs.Prelude.{ℕ, ◌≤◌, ◌≡◌, true, List, length, get_or, take, Result, Ok, Err}
 use Rattle.layout.specs.Sizes.{most_entries}
 use Rattle.reason.specs.declared.Reason.{Reason}
 use Rattle.reason.specs.declared.Reason.TheVariants.{Unreadable, StateUnfit}
@@ -7,7 +7,6 @@ use Rattle.walk.specs.Walk.{Reading, readable, unreadable}
 use Rattle.state.specs.declared.State.{State}
 use Rattle.state.specs.declared.Held.{Held}
 use Rattle.state.specs.Lists.{pick, any, all, filled, no_held, listed, holding, phase_fits}
-use Rattle.judge.specs.declared.Verdict.TheVariants.{Fits, Refused}
 use Rattle.judge.specs.declared.Judged.{Judged}
 use Rattle.judge.specs.declared.Seen.{Seen}
 use Rattle.judge.specs.Fits.{is_in_flight, fits}
@@ -15,15 +14,12 @@ use Rattle.judge.specs.Fits.{is_in_flight, fits}
 abbrev pub padded : List Held → List Held
 padded hs = filled most_entries no_held hs
 
-abbrev pub judged_no : Reason → Judged
-judged_no why = record { verdict = Refused why; count = 0; held = padded [] }
-
-abbrev pub judged_of : Reading → State → Judged
-judged_of unreadable s = judged_no Unreadable
+abbrev pub judged_of : Reading → State → Result Judged Reason
+judged_of unreadable s = Err Unreadable
 judged_of (readable g es) s =
     pick (fits es s)
-    (record { verdict = Fits g; count = length es; held = padded (holding es (listed s)) })
-    (judged_no StateUnfit)
+    (Ok (record { ring = g; count = length es; held = padded (holding es (listed s)) }))
+    (Err StateUnfit)
 
 -- what was seen is true of the first n held writes, and each is in one of three states
 pub record SeenWell (held : List Held) (n : ℕ) (x : Seen) : Type 0 where

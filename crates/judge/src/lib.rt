@@ -8,26 +8,29 @@ ghost use Rattle.layout.specs.Bytes.{both};
 ghost use Rattle.walk.specs.Walk.{readable, reading_of};
 ghost use Rattle.state.specs.Lists.{pick, pairs, no_held, in_flight, most_pins};
 ghost use Rattle.judge.specs.Fits.{listed_fits, next_fits, pin_fits, pins_fit, phases_fit, pair_fits, held_fits};
-ghost use Rattle.judge.specs.Answers.{SeenWell, judged_no, judged_of};
+ghost use Rattle.judge.specs.Answers.{SeenWell, judged_of};
 
 use layout::Ring;
 use reason::Reason;
 use state::{FLUSHED, GONE, Held, IN_FLIGHT, Listed, PINS, Pin, State, UNFLUSHED};
-use walk::{Entry, Opened, Walked};
+use walk::Walked;
 
-// The judge's word on a ring and a state; the refusals are Unreadable and StateUnfit.
-#[derive(Clone, Copy)]
-pub enum Verdict {
-    Fits(Ring),
-    Refused(Reason),
-}
-
-// The verdict, with the held writes beside it: count of them, oldest first, and zeros behind them.
+// A ring that can be read, and whose state fits it, with the held writes: count of them, oldest first, and zeros behind them.
 #[derive(Clone, Copy)]
 pub struct Judged {
-    pub verdict: Verdict,
+    pub ring: Ring,
     pub count: usize,
     pub held: [Held; Ring::ENTRIES],
+}
+
+impl Judged {
+    // The held writes.
+    pub fn held(&self) -> &[Held]
+        requires { self.now.count ≤ most_entries }
+        ensures { result.now ≡ take self.now.count self.now.held }
+    {
+        &self.held[0..self.count]
+    }
 }
 
 // What the pass over the ring's entries and the listed writes tells beside the held writes.
@@ -208,17 +211,6 @@ fn next_fits(next: u64, flush: u64) -> bool
     true
 }
 
-fn refused(why: Reason) -> Judged
-    ensures { result ≡ judged_no why }
-{
-    let held = none_held();
-    Judged {
-        verdict: Verdict::Refused(why),
-        count: 0,
-        held,
-    }
-}
-
 // What is judged of a state that lists as many writes as the ring has.
 fn state_fits(held: [Held; Ring::ENTRIES], count: usize, seen: Seen, s: State) -> bool
     requires { (count ≤ most_entries) × (seen.matched ≡ true → SeenWell held count seen) }
@@ -239,19 +231,23 @@ fn state_fits(held: [Held; Ring::ENTRIES], count: usize, seen: Seen, s: State) -
 
 // The judge of a ring that is readable: the entries are held beside their states in one pass over both, and then judged. The pass stands here,
 // since a function of its own would hand ten kilobytes back and forth.
-fn judge_entries(ring: Ring, entries: [Entry; Ring::ENTRIES], count: usize, s: State) -> Judged
-    requires { count ≤ most_entries }
-    ensures { result ≡ judged_of (readable ring (take count entries)) s }
+fn judge_entries(walked: Walked, s: State) -> Result<Judged, Reason>
+    requires { walked.count ≤ most_entries }
+    ensures { result ≡ judged_of (readable walked.ring (take walked.count walked.entries)) s }
 {
+    let Walked {
+        ring,
+        count,
+        entries,
+    } = walked;
     let writes = s.writes;
     if s.count != count {
-        return refused(Reason::StateUnfit);
+        return Err(Reason::StateUnfit);
     }
     let mut held = none_held();
     let mut matched = true;
     let mut flying = false;
-    let mut i: usize = 0;
-    while i < count {
+    for i in 0..count {
         let entry = entries[i];
         let one = writes[i];
         matched = matches_on(matched, one, entry.number, s.next);
@@ -260,7 +256,6 @@ fn judge_entries(ring: Ring, entries: [Entry; Ring::ENTRIES], count: usize, s: S
             entry,
             phase: one.phase,
         };
-        i += 1;
     }
     let head = held[0];
     let seen = Seen {
@@ -269,24 +264,15 @@ fn judge_entries(ring: Ring, entries: [Entry; Ring::ENTRIES], count: usize, s: S
         head,
     };
     if !state_fits(held, count, seen, s) {
-        return refused(Reason::StateUnfit);
+        return Err(Reason::StateUnfit);
     }
-    Judged {
-        verdict: Verdict::Fits(ring),
-        count,
-        held,
-    }
+    Ok(Judged { ring, count, held })
 }
 
-// 8 and 12, for any bytes and any state.
-pub fn judge(bytes: &[u8], s: State) -> Judged
+// 8 and 12, for any bytes and any state; the refusals are Unreadable and StateUnfit.
+pub fn judge(bytes: &[u8], s: State) -> Result<Judged, Reason>
     ensures { result ≡ judged_of (reading_of bytes.now) s }
 {
-    let walked = walk::read(bytes);
-    let opened = walked.opened;
-    let entries = walked.entries;
-    let Opened::Readable(ring) = opened else {
-        return refused(Reason::Unreadable);
-    };
-    judge_entries(ring, entries, walked.count, s)
+    let walked = walk::read(bytes)?;
+    judge_entries(walked, s)
 }

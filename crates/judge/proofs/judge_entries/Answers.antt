@@ -10,11 +10,11 @@ use Rattle.judge.proofs.judge_entries.Goals as goal
 
 pub returns-then-s-count : goal.returns-then-s-count
 returns-then-s-count c = let a = c.args in
-    let m : a.count ≤ length a.entries = omega arith in
-    c.refused.ensures ∙ unfit _ _ _ (judge_count a.entries a.count a.s m c.if-s-count.true)
+    let m : a.walked.count ≤ length a.walked.entries = omega arith in
+    unfit _ _ _ (judge_count a.walked.entries a.walked.count a.s m c.if-s-count.true)
 
 pub loop-i-init : goal.loop-i-init
-loop-i-init c = let w = writes_long c.args.s c.well_formed.1.1.1.0 in
+loop-i-init c = let w = writes_long c.args.s c.well_formed.1.0 in
     hold_start _ _ _ _ c.requires (omega arith) (omega arith) _ c.none_held-held.ensures
 
 pub loop-i-preserved : goal.loop-i-preserved
@@ -23,17 +23,17 @@ loop-i-preserved c = hold_on _ _ _ _ _ _ _ _ c.loop-i.invariant c.loop-i-test.tr
 pub state_fits-requires : goal.state_fits-requires
 state_fits-requires c = let a = c.args in
     let u = hold_end _ _ _ _ _ _ _ _ c.loop-i.invariant c.loop-i-test.false in
-    (c.requires, judge_well a.entries a.count a.s u.entries _ _ _ u)
+    (c.requires, judge_well a.walked.entries a.walked.count a.s u.entries _ _ _ u)
 
 pub returns-then-not-state_fits : goal.returns-then-not-state_fits
 returns-then-not-state_fits c = let a = c.args in
     let u = hold_end _ _ _ _ _ _ _ _ c.loop-i.invariant c.loop-i-test.false in
-    let b = judge_by a.entries a.count a.s u.entries _ _ _ u c.if-s-count.false _ c.state_fits.ensures in
-    c.refused-then-not-state_fits.ensures ∙ unfit _ _ _ (sym b ∙ c.if-not-state_fits.true)
+    let b = judge_by a.walked.entries a.walked.count a.s u.entries _ _ _ u c.if-s-count.false _ c.state_fits.ensures in
+    unfit _ _ _ (sym b ∙ c.if-not-state_fits.true)
 
 pub returns : goal.returns
 returns c = let a = c.args in
     let u = hold_end _ _ _ _ _ _ _ _ c.loop-i.invariant c.loop-i-test.false in
     let e = c.if-s-count.false in
-    let b = judge_by a.entries a.count a.s u.entries _ _ _ u e _ c.state_fits.ensures in
-    judge_fits a.entries a.count a.s u.entries _ _ _ u e _ (sym b ∙ c.if-not-state_fits.false)
+    let b = judge_by a.walked.entries a.walked.count a.s u.entries _ _ _ u e _ c.state_fits.ensures in
+    judge_fits a.walked.entries a.walked.count a.s u.entries _ _ _ u e _ (sym b ∙ c.if-not-state_fits.false)
