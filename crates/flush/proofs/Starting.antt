@@ -86,7 +86,7 @@ module _ (r : List ℕ) (s : State) (g : Ring) (count : ℕ) (held : List Held) 
               record {
                 few = f;
                 long = ap length listed_entries ∙ filled_long most_batch no_entry (map entry_of (batch_of node hs)) (omega arith);
-                Some = λ i h. (one i h).valid.bytes;
+                some = λ i h. (one i h).valid.bytes;
                 most = λ i h. (one i h).valid.most;
                 ends = λ i h. (one i h).valid.end;
               };

@@ -111,7 +111,7 @@ module _ (entries : List Entry) (n : ℕ) (s : State) (m : n ≤ length entries)
       pub judge_fits : (g : Ring) → fits (take n entries) s ≡ true → Ok (record { ring = g; count = n; held = held }) ≡ judged_of (readable g (take n entries)) s
       judge_fits g q = rw (q, long, u.held, same)
 
-ok_same : {A B : Type 0} (x y : A) → ◌≡◌ {A = Result A B} (Ok x) (Ok y) → x ≡ y
+pub ok_same : {A B : Type 0} (x y : A) → ◌≡◌ {A = Result A B} (Ok x) (Ok y) → x ≡ y
 ok_same x y e = cc
 
 -- ---- from the walk's answer to the reading

@@ -1,5 +1,5 @@
 -- From the judge's word to the outcome: a call that it refuses, and what a call that it lets pass may count on.
-use Rattle.std.specs.Prelude.{Some}
+use Rattle.std.specs.Prelude.{Some, Result, Ok, Err}
 use Prim.Native.Nat.{ℕ}
 use mathlib.Core.Path.{◌≡◌, refl, sym, ◌∙◌, ap}
 use mathlib.Core.Bool.{Bool, true, false}
@@ -16,13 +16,11 @@ use Rattle.walk.specs.Walk.{Reading, readable, unreadable, reading_of}
 use Rattle.state.specs.declared.State.{State}
 use Rattle.state.specs.declared.Held.{Held}
 use Rattle.state.specs.Lists.{holding, listed}
-use Rattle.judge.specs.declared.Verdict.{Verdict}
-use Rattle.judge.specs.declared.Verdict.TheVariants.{Fits, Refused}
 use Rattle.judge.specs.declared.Judged.{Judged}
 use Rattle.judge.specs.Fits.{fits}
 use Rattle.judge.specs.Answers.{padded, judged_of}
 use Rattle.judge.proofs.Fitting.{list_length, holding_length}
-use Rattle.judge.proofs.Rules.{fits_sound}
+use Rattle.judge.proofs.Rules.{fits_sound, ok_same}
 use Rattle.rules.specs.Call.{Call, makes, reopens, is_one}
 use Rattle.rules.specs.Refusals.{refusal_of, own}
 use Rattle.rules.specs.Outcome.{lent_by, refuses, done_by, unless, outcome}
@@ -35,12 +33,9 @@ pub record Judges (c : Call) : Type 0 where
 
 -- ---- what the judge says
 
-fits_ring : (h g : Ring) → Fits h ≡ Fits g → h ≡ g
-fits_ring h g e = cc
-
 module _ (r : List ℕ) (s : State) where
   known_yes : (g : Ring) (es : List Entry) → reading_of r ≡ readable g es → fits es s ≡ true
-      → Known r s g (length es) (padded (holding es (listed s)))
+      → Known r s (record { ring = g; count = length es; held = padded (holding es (listed s)) })
   known_yes g es q f =
       record {
         entries = es;
@@ -51,27 +46,22 @@ module _ (r : List ℕ) (s : State) where
       }
 
   module _ (j : Judged) where
-    known_by : (g h : Ring) (es : List Entry) (b : Bool) → reading_of r ≡ readable h es → fits es s ≡ b → j ≡ judged_of (readable h es) s
-        → j.verdict ≡ Fits g → Known r s g j.count j.held
-    known_by g h es true q f e v =
-        let w : j ≡ record { verdict = Fits h; count = length es; held = padded (holding es (listed s)) } = rw f at e in
-        let k : Fits h ≡ Fits g = ap (λ x. x.verdict) (sym w) ∙ v in
-        let z : h ≡ g = fits_ring h g k in
-        rw (w, ← z) (known_yes h es q f)
-    known_by g h es false q f e v =
-        let w : j.verdict ≡ Refused StateUnfit = ap (λ x. x.verdict) (rw f at e) in
-        never (cc)
+    known_by : (h : Ring) (es : List Entry) (b : Bool) → reading_of r ≡ readable h es → fits es s ≡ b → Ok j ≡ judged_of (readable h es) s → Known r s j
+    known_by h es true q f e =
+        let w : record { ring = h; count = length es; held = padded (holding es (listed s)) } ≡ j = ok_same _ _ (sym (rw f at e)) in
+        rw (← w) (known_yes h es q f)
+    known_by h es false q f e = never (let w : ◌≡◌ {A = Result Judged Reason} (Ok j) (Err StateUnfit) = (rw f at e) in cc)
 
-    known_at : (g : Ring) (x : Reading) → reading_of r ≡ x → j ≡ judged_of x s → j.verdict ≡ Fits g → Known r s g j.count j.held
-    known_at g unreadable q e v = never (let w : j.verdict ≡ Refused Unreadable = ap (λ x. x.verdict) e in cc)
-    known_at g (readable h es) q e v = known_by g h es (fits es s) q refl e v
+    known_at : (x : Reading) → reading_of r ≡ x → Ok j ≡ judged_of x s → Known r s j
+    known_at unreadable q e = never (cc)
+    known_at (readable h es) q e = known_by h es (fits es s) q refl e
 
-    pub known : (g : Ring) → j ≡ judged_of (reading_of r) s → j.verdict ≡ Fits g → Known r s g j.count j.held
-    known g e v = known_at g (reading_of r) refl e v
+    pub known : Ok j ≡ judged_of (reading_of r) s → Known r s j
+    known e = known_at (reading_of r) refl e
 
 -- ---- what the judge refuses, the call refuses
 
-same_reason : (a b : Reason) → ◌≡◌ {A = Verdict} (Refused a) (Refused b) → a ≡ b
+same_reason : (a b : Reason) → ◌≡◌ {A = Result Judged Reason} (Err a) (Err b) → a ≡ b
 same_reason a b e = cc
 
 module _ (c : Call) (o : Judges c) (r : List ℕ) (s : State) where
@@ -83,33 +73,29 @@ module _ (c : Call) (o : Judges c) (r : List ℕ) (s : State) where
   unfolding refusal_of both
   unfit_refused g es q f = rw (q, o.reads, o.fits, f)
 
-  refused_by : (why : Reason) (h : Ring) (es : List Entry) (j : Judged) (b : Bool) → reading_of r ≡ readable h es → fits es s ≡ b
-      → j ≡ judged_of (readable h es) s → j.verdict ≡ Refused why → refusal_of c r s ≡ Some why
-  refused_by why h es j true q f e v =
-      let w : j.verdict ≡ Fits h = ap (λ x. x.verdict) (rw f at e) in
-      never (cc)
-  refused_by why h es j false q f e v =
-      let w : j.verdict ≡ Refused StateUnfit = ap (λ x. x.verdict) (rw f at e) in
-      unfit_refused h es q f ∙ ap Some (same_reason _ _ (sym w ∙ v))
+  refused_by : (why : Reason) (h : Ring) (es : List Entry) (b : Bool) → reading_of r ≡ readable h es → fits es s ≡ b
+      → Err why ≡ judged_of (readable h es) s → refusal_of c r s ≡ Some why
+  refused_by why h es true q f e = never (let w : ◌≡◌ {A = Result Judged Reason} (Err why) (Ok (record { ring = h; count = length es; held = padded (holding es (listed s)) })) = (rw f at e) in cc)
+  refused_by why h es false q f e = unfit_refused h es q f ∙ ap Some (same_reason _ _ (sym (rw f at e)))
 
-  refused_at : (why : Reason) (j : Judged) (x : Reading) → reading_of r ≡ x → j ≡ judged_of x s → j.verdict ≡ Refused why → refusal_of c r s ≡ Some why
-  refused_at why j unreadable q e v = unreadable_refused q ∙ ap Some (same_reason _ _ (ap (λ x. x.verdict) (sym e) ∙ v))
-  refused_at why j (readable h es) q e v = refused_by why h es j (fits es s) q refl e v
+  refused_at : (why : Reason) (x : Reading) → reading_of r ≡ x → Err why ≡ judged_of x s → refusal_of c r s ≡ Some why
+  refused_at why unreadable q e = unreadable_refused q ∙ ap Some (same_reason _ _ (sym e))
+  refused_at why (readable h es) q e = refused_by why h es (fits es s) q refl e
 
-  pub judge_no : (why : Reason) (j : Judged) → j ≡ judged_of (reading_of r) s → j.verdict ≡ Refused why → refusal_of c r s ≡ Some why
-  judge_no why j e v = refused_at why j (reading_of r) refl e v
+  pub judge_no : (why : Reason) → Err why ≡ judged_of (reading_of r) s → refusal_of c r s ≡ Some why
+  judge_no why e = refused_at why (reading_of r) refl e
 
-  pub judge_refuses : (why : Reason) (j : Judged) → j ≡ judged_of (reading_of r) s → j.verdict ≡ Refused why → lent_by (refuses why) s r c.buffer ≡ outcome c r s
+  pub judge_refuses : (why : Reason) → Err why ≡ judged_of (reading_of r) s → lent_by (refuses why) s r c.buffer ≡ outcome c r s
   unfolding outcome
-  judge_refuses why j e v = rw (refused_at why j (reading_of r) refl e v)
+  judge_refuses why e = rw (refused_at why (reading_of r) refl e)
 
 -- ---- what it lets pass goes by the rest of the order
 
-module _ (c : Call) (o : Judges c) (r : List ℕ) (s : State) (g : Ring) (count : ℕ) (held : List Held) (k : Known r s g count held) where
-  pub passes : refusal_of c r s ≡ own c r (readable g k.entries) s
+module _ (c : Call) (o : Judges c) (r : List ℕ) (s : State) (j : Judged) (k : Known r s j) where
+  pub passes : refusal_of c r s ≡ own c r (readable j.ring k.entries) s
   unfolding refusal_of both
   passes = rw (k.reading, o.reads, o.fits, k.fit)
 
-  pub judge_passes : outcome c r s ≡ unless (own c r (readable g k.entries) s) r s c.buffer (done_by c.kind c g k.entries (take count held) r s)
+  pub judge_passes : outcome c r s ≡ unless (own c r (readable j.ring k.entries) s) r s c.buffer (done_by c.kind c j.ring k.entries (take j.count j.held) r s)
   unfolding outcome
   judge_passes = rw (passes, k.reading, k.front)

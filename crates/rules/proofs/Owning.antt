@@ -24,6 +24,7 @@ use Rattle.state.specs.declared.Listed.{Listed}
 use Rattle.state.proofs.Finding.{Each}
 use Rattle.state.specs.Lists.{pick, all, listed, holding, entry_of, phase_fits, RisingTo}
 use Rattle.state.specs.Pins.{has_pin, has_pin_for}
+use Rattle.judge.specs.declared.Judged.{Judged}
 use Rattle.judge.specs.Fits.{next_fits}
 use Rattle.judge.proofs.Fitting.{list_length, holding_length, holding_entries, holding_rising, holding_below, holding_phases}
 use Rattle.judge.proofs.Rules.{fits_sound}
@@ -95,7 +96,7 @@ module _ (r : List ℕ) (x : Reading) (s : State) where
 
 pub record Writable (g : Ring) (s : State) (node offset length : ℕ) : Type 0 where
   pub named : node ≡ 0 → ⊥
-  pub Some : 0 < length
+  pub some : 0 < length
   pub most : length ≤ largest
   pub end : offset + length ≤ file_end
   pub next : s.next ≡ number_limit → ⊥
@@ -121,7 +122,7 @@ writes_when g s node offset bs e =
     let n = eqb-false (length bs) 0 l.0 in
     record {
       named = eqb-false node 0 a.0;
-      Some = omega (arith, n);
+      some = omega (arith, n);
       most = ltb-false largest (length bs) l.1;
       end = ltb-false file_end (offset + length bs) c.0;
       next = eqb-false s.next number_limit d.0;
@@ -156,10 +157,10 @@ holding_inside n [] ws o = tt
 holding_inside n (e ∷ es) [] o = tt
 holding_inside n (e ∷ es) (w ∷ ws) o = (o.0, holding_inside n es ws o.1)
 
-pub sure : (r : List ℕ) (s : State) (g : Ring) (count : ℕ) (held : List Held) → Known r s g count held → Sure r s g count (take count held)
-sure r s g count held k =
+pub sure : (r : List ℕ) (s : State) (j : Judged) → Known r s j → Sure r s j.ring j.count (take j.count j.held)
+sure r s j k =
     let es = k.entries in
-    let f = readable_facts r g es k.reading in
+    let f = readable_facts r j.ring es k.reading in
     let o = fits_sound es s k.fit in
     let l = list_length s.next es (listed s) o.list in
     let n = next_facts s.next s.flush o.next in
@@ -181,5 +182,5 @@ sure r s g count held k =
       below = holding_below s.next es (listed s) 0 f.rising o.list;
       limit = holding_rising es (listed s) 0 f.rising;
       phases = holding_phases s.next es (listed s) o.list;
-      inside = holding_inside g.n es (listed s) f.inside;
+      inside = holding_inside j.ring.n es (listed s) f.inside;
     })

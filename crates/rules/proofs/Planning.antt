@@ -1,5 +1,5 @@
 -- A call that is planned: its plan's steps are the call's steps, each finds its ring, and run to the end they leave the outcome's ring. Document 02, Q-8.
-use Rattle.std.specs.Prelude.{Option, None, Some}
+use Rattle.std.specs.Prelude.{Option, None, Some, Err}
 use Prim.Native.Nat.{ℕ, ◌+◌, ◌≤◌, ◌<◌}
 use mathlib.Core.Path.{◌≡◌, refl, sym, ap, ◌∙◌}
 use mathlib.Core.Bool.{Bool, true, false}
@@ -28,7 +28,6 @@ use Rattle.state.specs.declared.State.{State}
 use Rattle.state.specs.declared.Held.{Held}
 use Rattle.state.specs.Moves.{good, reported}
 use Rattle.state.specs.Pins.{slots_left}
-use Rattle.judge.specs.declared.Verdict.TheVariants.{Refused}
 use Rattle.judge.specs.declared.Judged.{Judged}
 use Rattle.judge.specs.Fits.{fits}
 use Rattle.judge.specs.Answers.{judged_of}
@@ -48,18 +47,18 @@ use Rattle.rules.proofs.Cuts.{outcome_runs}
 -- ---- what the judge refuses is planned as nothing
 
 module _ (c : Call) (o : Judges c) (r : List ℕ) (s : State) where
-  pub plan_refuses : (why : Reason) (j : Judged) → j ≡ judged_of (reading_of r) s → j.verdict ≡ Refused why → planned_by (refuses why) s no_plan ≡ planned c r s
+  pub plan_refuses : (why : Reason) → Err why ≡ judged_of (reading_of r) s → planned_by (refuses why) s no_plan ≡ planned c r s
   unfolding outcome plan_of
-  plan_refuses why j e v = rw (judge_no c o r s why j e v)
+  plan_refuses why e = rw (judge_no c o r s why e)
 
 -- ---- what the judge let pass goes by the rest of the order
 
-module _ (c : Call) (o : Judges c) (r : List ℕ) (s : State) (g : Ring) (count : ℕ) (held : List Held) (k : Known r s g count held) where
+module _ (c : Call) (o : Judges c) (r : List ℕ) (s : State) (j : Judged) (k : Known r s j) where
   pub plan_passes : planned c r s
-      ≡ (let out = unless (own c r (readable g k.entries) s) r s c.buffer (done_by c.kind c g k.entries (take count held) r s) in
-      planned_by out.said out.state (unless_no (own c r (readable g k.entries) s) (plan_by c.kind c g (take count held) s)))
+      ≡ (let out = unless (own c r (readable j.ring k.entries) s) r s c.buffer (done_by c.kind c j.ring k.entries (take j.count j.held) r s) in
+      planned_by out.said out.state (unless_no (own c r (readable j.ring k.entries) s) (plan_by c.kind c j.ring (take j.count j.held) s)))
   unfolding outcome plan_of
-  plan_passes = rw (passes c o r s g count held k, k.reading, k.front)
+  plan_passes = rw (passes c o r s j k, k.reading, k.front)
 
 -- ---- a call that tests 8 and 12, and isn't refused: the ring reads, and the state fits
 

@@ -73,7 +73,7 @@ module _ (c : Call) (r : List ℕ) (s : State) (k : Stands r s) where
         let g : ring_of (reading_of r) ≡ k.ring = ap ring_of k.reading in
         record {
           named = eqb-false c.node 0 (both_fails _ _ (free 2 (omega arith)) (rw e));
-          Some = omega (arith, n);
+          some = omega (arith, n);
           most = ltb-false largest (length c.bytes) l.1;
           end = ltb-false file_end (c.offset + length c.bytes) (rw e at (both_fails _ _ (free 4 (omega arith)) (rw e)));
           next = eqb-false s.next number_limit (both_fails _ _ (free 9 (omega arith)) (rw e));
