@@ -8,7 +8,6 @@ use mathlib.Core.Logic.{◌⊎◌, inl, inr}
 use native.Mathlib.Omega.{arith}
 use borrow.Author.Tests.{lt-ltb, le-leb, lt-leb, eq-eqb, ne_eqb, ltb-true}
 use lib.ListN.{length, get_or, take}
-use lib.Seq.{length-take-le, get_or-take}
 use lib.Dec.{eqb, ltb, leb}
 use Rattle.layout.specs.Sizes.{number_limit}
 use Rattle.layout.specs.Bytes.{both}
@@ -174,22 +173,16 @@ pub seek_phase : (phase : ℕ) (hs : List Held) → Each (λ h. h.entry.number <
     → place_of (seeks (query 0 number_limit phase phase)) hs ≡ place_of (λ h. eqb h.phase phase) hs
 seek_phase phase hs n = place_each _ _ hs (each_by (Below number_limit) _ hs (sought_phase phase) n)
 
--- ---- the value at the place that a search over an array found
+-- ---- the value at the place that a search found
 
-module _ (p : Held → Bool) (f : Held → ℕ) (other below : ℕ) (l : List Held) (n i : ℕ) (m : n ≤ length l) where
-  long : length (take n l) ≡ n
-  long = length-take-le n l m
+module _ (p : Held → Bool) (f : Held → ℕ) (other below : ℕ) (hs : List Held) where
+  pub value_found : RisingTo below 0 hs → (i : ℕ) → i ≡ place_of p hs → i < length hs → f (get_or hs i no_held) ≡ value_or f other (lowest (those p hs))
+  value_found o i e h =
+      let w : lowest (those p hs) ≡ Some (get_or hs (place_of p hs) no_held) = lowest_found p below 0 hs o (omega arith) in
+      ap (λ j. f (get_or hs j no_held)) e ∙ ap (value_or f other) (sym w)
 
-  pub value_found : RisingTo below 0 (take n l) → i ≡ place_of p (take n l) → i < n → f (get_or l i no_held) ≡ value_or f other (lowest (those p (take n l)))
-  value_found o e h =
-      let z = long in
-      let w : lowest (those p (take n l)) ≡ Some (get_or (take n l) (place_of p (take n l)) no_held) = lowest_found p below 0 (take n l) o (omega arith) in
-      ap f (sym (get_or-take n l i no_held h) ∙ ap (λ j. get_or (take n l) j no_held) e) ∙ ap (value_or f other) (sym w)
-
-  pub value_none : i ≡ place_of p (take n l) → n ≤ i → other ≡ value_or f other (lowest (those p (take n l)))
-  value_none e h =
-      let z = long in
-      ap (value_or f other) (sym (lowest_none p (take n l) (omega arith)))
+  pub value_none : place_of p hs ≡ length hs → other ≡ value_or f other (lowest (those p hs))
+  value_none e = ap (value_or f other) (sym (lowest_none p hs (omega arith)))
 
 place_by : {A : Type 0} (p : A → Bool) (x : A) (xs : List A) (b : Bool) → p x ≡ b → place_of p xs ≤ length xs → place_of p (x ∷ xs) ≤ length (x ∷ xs)
 place_by p x xs true e h = rw e (omega arith)
@@ -231,7 +224,5 @@ each_at P d [] i o h = absurd (omega arith)
 each_at P d (x ∷ xs) zero o h = o.0
 each_at P d (x ∷ xs) (suc i) o h = each_at P d xs i o.1 (omega arith)
 
-pub fit_at : (l : List Held) (n i : ℕ) → n ≤ length l → all phase_fits (take n l) ≡ true → i < n → (get_or l i no_held).phase < gone
-fit_at l n i m f h =
-    let z = length-take-le n l m in
-    ltb-true _ _ (ap phase_fits (sym (get_or-take n l i no_held h)) ∙ each_at Fit no_held (take n l) i (each_true phase_fits (take n l) f) (omega arith))
+pub fit_at : (hs : List Held) (i : ℕ) → all phase_fits hs ≡ true → i < length hs → (get_or hs i no_held).phase < gone
+fit_at hs i f h = ltb-true _ _ (each_at Fit no_held hs i (each_true phase_fits hs f) h)

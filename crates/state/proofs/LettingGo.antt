@@ -5,18 +5,20 @@ use mathlib.Core.Bool.{Bool, true, false, not}
 use mathlib.Core.List.{List, [], ◌∷◌, ◌++◌, map, map-append, append_assoc, append-nil}
 use native.Mathlib.Omega.{arith}
 use native.Mathlib.Numerals.{add-one}
-use lib.ListN.{length, take, drop, get_or, length-append}
-use lib.Seq.{slice, slice-cons, slice_empty, length-take-le, take-suc, drop-append_seam}
+use lib.ListN.{length, take, drop, get_or, length-append, take-append-drop}
+use lib.Seq.{length-take-le, drop-append_seam, drop-cons}
+use Rattle.std.proofs.lemmas.List.{drop_all, take_more}
 use lib.Dec.{eqb}
 use borrow.Author.Tests.{eq-eqb, ne_eqb}
+use Rattle.std.specs.List.{list_any}
 use Rattle.layout.specs.Sizes.{slots_of}
 use Rattle.layout.specs.Bytes.{both}
 use Rattle.walk.specs.Walk.{slots_used}
 use Rattle.walk.proofs.Chain.{used_append}
-use Rattle.state.proofs.Pairs.{take_split}
+use Rattle.state.proofs.Library.{any_list}
 use Rattle.state.specs.declared.Pin.{Pin}
 use Rattle.state.specs.declared.Held.{Held}
-use Rattle.state.specs.Lists.{any, flushed, gone, no_held, entry_of}
+use Rattle.state.specs.Lists.{flushed, gone, no_held, entry_of}
 use Rattle.state.specs.Moves.{move_of, let_go}
 use Rattle.state.specs.Pins.{keeps, is_due, leaving, staying, slots_left}
 
@@ -36,79 +38,60 @@ pub slots_append : (hs ks : List Held) → slots_in (hs ++ ks) ≡ slots_in hs +
 slots_append hs ks = rw (map-append) (used_append (map entry_of hs) (map entry_of ks))
 
 -- those before place i are due, and take so many slots
-pub record Counting (ps : List Pin) (l : List Held) (n i slots : ℕ) : Type 0 where
-  pub upto : i ≤ n
-  pub within : n ≤ length l
-  pub rest : leaving ps (take n l) ≡ take i l ++ leaving ps (slice i n l)
-  pub sum : slots ≡ slots_in (take i l)
+pub record Counting (ps : List Pin) (hs : List Held) (i slots : ℕ) : Type 0 where
+  pub rest : leaving ps hs ≡ take i hs ++ leaving ps (drop i hs)
+  pub sum : slots ≡ slots_in (take i hs)
 
-module _ (ps : List Pin) (l : List Held) (n : ℕ) where
-  pub count_start : n ≤ length l → Counting ps l n 0 0
-  count_start h = record { upto = omega arith; within = h; rest = refl; sum = refl }
-
-  module _ (i slots : ℕ) (s : Counting ps l n i slots) where
+module _ (ps : List Pin) (hs : List Held) where
+  module _ (i slots : ℕ) (s : Counting ps hs i slots) where
     -- what the loop answers where none of the rest leaves
-    count_stop : leaving ps (slice i n l) ≡ [] → (i ≡ length (leaving ps (take n l))) × (slots ≡ slots_left ps (take n l))
-    count_stop e =
-        let w : leaving ps (take n l) ≡ take i l = s.rest ∙ ap (take i l ++◌) e ∙ append-nil (take i l) in
-        let u = s.upto in
-        let v = s.within in
-        (sym (ap length w ∙ length-take-le i l (omega arith)), s.sum ∙ ap slots_in (sym w))
+    count_stop : i ≤ length hs → leaving ps (drop i hs) ≡ [] → (i ≡ length (leaving ps hs)) × (slots ≡ slots_left ps hs)
+    count_stop u e =
+        let w : leaving ps hs ≡ take i hs = s.rest ∙ ap (take i hs ++◌) e ∙ append-nil (take i hs) in
+        (sym (ap length w ∙ length-take-le i hs u), s.sum ∙ ap slots_in (sym w))
 
-    pub count_here : i < n → is_due ps (get_or l i no_held) ≡ false → (i ≡ length (leaving ps (take n l))) × (slots ≡ slots_left ps (take n l))
+    pub count_end : i ≡ length hs → (length hs ≡ length (leaving ps hs)) × (slots ≡ slots_left ps hs)
     unfolding leaving
-    count_here h t = count_stop (rw (slice-cons i n l no_held h s.within, t))
+    count_end k = let w = count_stop (omega arith) (rw (drop_all i hs (omega arith))) in (sym k ∙ w.0, w.1)
 
-    pub count_end : n ≤ i → (i ≡ length (leaving ps (take n l))) × (slots ≡ slots_left ps (take n l))
-    unfolding leaving
-    count_end h =
-        let u = s.upto in
-        let k : i ≡ n = omega arith in
-        count_stop (rw (k, slice_empty))
+    module _ (h : i < length hs) where
+      pub count_here : is_due ps (get_or hs i no_held) ≡ false → (i ≡ length (leaving ps hs)) × (slots ≡ slots_left ps hs)
+      unfolding leaving
+      count_here t = count_stop (omega arith) (rw (drop-cons hs i no_held, t))
 
-    module _ (h : i < n) where
       -- one more
-      more : take (i + 1) l ≡ take i l ++ get_or l i no_held ∷ []
-      more = let v = s.within in rw (add-one) (take-suc l i no_held (omega arith))
-
-      more_slots : slots_in (take (i + 1) l) ≡ slots + slots_of (get_or l i no_held).entry.length
+      more_slots : slots_in (take (i + 1) hs) ≡ slots + slots_of (get_or hs i no_held).entry.length
       more_slots =
-          let a = slots_append (take i l) (get_or l i no_held ∷ []) in
+          let a = slots_append (take i hs) (get_or hs i no_held ∷ []) in
           let z = s.sum in
-          ap slots_in more ∙ omega arith
+          ap slots_in (take_more hs i no_held h) ∙ omega arith
 
       -- the slots counted are some of all
-      pub count_most : slots + slots_of (get_or l i no_held).entry.length ≤ slots_in (take n l)
+      pub count_most : slots + slots_of (get_or hs i no_held).entry.length ≤ slots_in hs
       count_most =
-          let v = s.within in
-          let w = take_split l (i + 1) n (omega arith) in
-          let a = slots_append (take (i + 1) l) (slice (i + 1) n l) in
+          let w = take-append-drop (i + 1) hs in
+          let a = slots_append (take (i + 1) hs) (drop (i + 1) hs) in
           let b = ap slots_in w in
           let z = more_slots in
           omega arith
 
-      pub count_on : is_due ps (get_or l i no_held) ≡ true → Counting ps l n (i + 1) (slots + slots_of (get_or l i no_held).entry.length)
+      pub count_on : is_due ps (get_or hs i no_held) ≡ true → Counting ps hs (i + 1) (slots + slots_of (get_or hs i no_held).entry.length)
       unfolding leaving
       count_on t =
           record {
-            upto = omega arith;
-            within = s.within;
-            rest = s.rest ∙ rw (slice-cons i n l no_held h s.within, t, more, append_assoc, add-one);
+            rest = s.rest ∙ rw (drop-cons hs i no_held, t, take_more hs i no_held h, append_assoc, add-one);
             sum = sym more_slots;
           }
 
 -- what the code's test of a write comes to
-module _ (ps : List Pin) (h : Held) (m : ℕ) (w : h.phase < 4) (e : m ≡ move_of h.phase let_go) where
-  due_flushed : eqb m gone ≡ eqb h.phase flushed
-  due_flushed = ap (λ x. eqb x gone) e ∙ let_go_flushed h.phase w
-
-  pub due_no : (m ≡ gone → ⊥) → false ≡ is_due ps h
+module _ (ps : List Pin) (h : Held) (w : h.phase < 4) where
+  pub due_yes : move_of h.phase let_go ≡ gone → is_due ps h ≡ not (list_any (keeps h) ps)
   unfolding is_due both
-  due_no k = rw (sym due_flushed ∙ ne_eqb m gone k)
+  due_yes k = rw (sym (let_go_flushed h.phase w) ∙ eq-eqb _ gone k, any_list (keeps h) ps)
 
-  pub due_yes : (b : Bool) → m ≡ gone → b ≡ any (keeps h) ps → not b ≡ is_due ps h
+  pub due_no : (move_of h.phase let_go ≡ gone → ⊥) → is_due ps h ≡ false
   unfolding is_due both
-  due_yes b k z = rw (sym due_flushed ∙ eq-eqb m gone k, z)
+  due_no k = rw (sym (let_go_flushed h.phase w) ∙ ne_eqb _ gone k)
 
 -- ---- those that leave, and those that stay
 

@@ -1,6 +1,7 @@
 pub mod Bools
 pub mod Loops
 pub mod Finding
+pub mod Library
 pub mod Those
 pub mod Extremes
 pub mod Pairs

@@ -1,13 +1,13 @@
--- What the loops over the first n elements of an array keep: a search from the front, a pass that changes each element.
+-- What the loops over an array keep: a search from the front, and blanks that are filled from the front.
 use Prim.Native.Nat.{ℕ, suc, ◌+◌, ◌-◌, ◌≤◌, ◌<◌}
-use mathlib.Core.Path.{◌≡◌, refl, sym, ◌∙◌}
+use mathlib.Core.Path.{◌≡◌, refl, ◌∙◌}
 use mathlib.Core.Bool.{Bool, true, false}
 use mathlib.Core.List.{List, [], ◌∷◌, ◌++◌, map, map-append, append_assoc}
 use native.Mathlib.Omega.{arith}
 use native.Mathlib.Numerals.{add-one}
-use lib.ListN.{length, take, drop, get_or, set, replicate, length-map, length-append, length-replicate}
-use lib.Seq.{slice, slice-cons, slice_empty, length-slice, length-take-le, take_all, take-suc, drop-append-le, drop-cons, get_or_at, set_at}
-use Rattle.state.specs.Lists.{any, place_of, carry, filled}
+use lib.ListN.{length, take, get_or, set, replicate, length-map, length-append, length-replicate}
+use lib.Seq.{slice, slice-cons, slice_empty, length-take-le, take_all, take-suc, set_at}
+use Rattle.state.specs.Lists.{any, place_of, filled}
 
 -- ---- a search: nothing before place i passes
 
@@ -81,47 +81,6 @@ module _ {A : Type 0} (p : A → Bool) (l : List A) (n i : ℕ) (s : Searching p
       let e : place_of p l ≡ i = rw whole at (search_end p l n i s h) in
       any_none p l (omega arith)
 
--- ---- a value carried along: what is carried at place i, over the rest, comes to the whole
-
-pub record Carrying {A B : Type 0} (f : B → A → B) (b₀ : B) (l : List A) (n i : ℕ) (b : B) : Type 0 where
-  pub upto : i ≤ n
-  pub within : n ≤ length l
-  pub rest : carry f b₀ (take n l) ≡ carry f b (slice i n l)
-
-module _ {A B : Type 0} (f : B → A → B) (b₀ : B) (l : List A) (n : ℕ) where
-  pub carry_start : n ≤ length l → Carrying f b₀ l n 0 b₀
-  carry_start h = record { upto = omega arith; within = h; rest = refl }
-
-  pub carry_on : (d : A) (i : ℕ) (b : B) → Carrying f b₀ l n i b → i < n → Carrying f b₀ l n (i + 1) (f b (get_or l i d))
-  carry_on d i b s h =
-      record {
-        upto = omega arith;
-        within = s.within;
-        rest = s.rest ∙ rw (slice-cons i n l d h s.within, add-one);
-      }
-
-  pub carry_end : (i : ℕ) (b : B) → Carrying f b₀ l n i b → n ≤ i → b ≡ carry f b₀ (take n l)
-  carry_end i b s h =
-      let q = s.upto in
-      let k : i ≡ n = omega arith in
-      sym (s.rest ∙ rw (k, slice_empty))
-
--- ---- a pass that changes each of the first elements in place
-
-abbrev pub passed : {A : Type 0} → (A → A) → ℕ → List A → List A
-passed f i l = map f (take i l) ++ drop i l
-
-module _ {A : Type 0} (f : A → A) (d : A) (l : List A) (i : ℕ) (h : i < length l) where
-  front : length (map f (take i l)) ≡ i
-  front = simp (length-map, length-take-le i l (omega arith))
-
-  pub pass_read : get_or (passed f i l) i d ≡ get_or l i d
-  pass_read = rw (drop-cons l i d) (get_or_at (map f (take i l)) (get_or l i d) (drop (suc i) l) d i front)
-
-  pub pass_more : set (passed f i l) i (f (get_or l i d)) ≡ passed f (i + 1) l
-  pass_more =
-      rw (drop-cons l i d, set_at (map f (take i l)) (get_or l i d) (drop (suc i) l) (f (get_or l i d)) i front, add-one, take-suc l i d, map-append, append_assoc)
-
 -- ---- an array of blanks filled from the front: xs stand in it so far
 
 pub fill_more : {A : Type 0} (m : ℕ) (z : A) (xs : List A) (k : ℕ) (v : A) → length xs ≡ k → k < m
@@ -134,20 +93,7 @@ fill_more m z xs k v e h =
 pub filled_long : {A : Type 0} (m : ℕ) (z : A) (xs : List A) → length xs ≤ m → length (filled m z xs) ≡ m
 filled_long m z xs h = length-append xs (replicate (m - length xs) z) ∙ (let e = length-replicate (m - length xs) z in omega arith)
 
--- one more of a part of a list
-pub slice_more : {A : Type 0} (f i : ℕ) (l : List A) (d : A) → f ≤ i → i < length l → slice f (i + 1) l ≡ slice f i l ++ get_or l i d ∷ []
-slice_more f i l d h k =
-    let z : length (take i l) ≡ i = length-take-le i l (omega arith) in
-    rw (add-one i, take-suc l i d k) (drop-append-le f (take i l) (get_or l i d ∷ []) (omega arith))
-
--- an array of blanks filled with what stands in a part of another, each element changed
-pub list_more : {A B : Type 0} (m : ℕ) (z : B) (f : A → B) (d : A) (l : List A) (from i : ℕ) → from ≤ i → i < length l → i - from < m
-    → set (filled m z (map f (slice from i l))) (i - from) (f (get_or l i d)) ≡ filled m z (map f (slice from (i + 1) l))
-list_more m z f d l from i h k w =
-    let e : length (map f (slice from i l)) ≡ i - from = length-map (slice from i l) f ∙ length-slice from i l (omega arith) in
-    rw (slice_more from i l d h k, map-append) (fill_more m z (map f (slice from i l)) (i - from) (f (get_or l i d)) e w)
-
--- the same of the first elements
+-- an array of blanks filled with the first elements of another, each changed
 pub list_first : {A B : Type 0} (m : ℕ) (z : B) (f : A → B) (d : A) (l : List A) (i : ℕ) → i < length l → i < m
     → set (filled m z (map f (take i l))) i (f (get_or l i d)) ≡ filled m z (map f (take (i + 1) l))
 list_first m z f d l i h k =

@@ -1,11 +1,11 @@
 -- Tests over lists: joined, at a place, and one element more.
-use Prim.Native.Nat.{ℕ, ◌+◌, ◌≤◌, ◌<◌}
+use Prim.Native.Nat.{ℕ, ◌+◌, ◌<◌}
 use mathlib.Core.Path.{◌≡◌, refl, sym, ◌∙◌, ap}
 use mathlib.Core.Bool.{Bool, true, false, not}
 use mathlib.Core.List.{List, [], ◌∷◌, ◌++◌, append_assoc}
 use native.Mathlib.Numerals.{add-one}
-use lib.ListN.{length, take, get_or, take-append-drop}
-use lib.Seq.{slice, take-suc, take-take}
+use lib.ListN.{length, take, get_or}
+use lib.Seq.{take-suc}
 use Rattle.layout.specs.Bytes.{both}
 use Rattle.layout.proofs.Tests.{both_left, both_right}
 use Rattle.state.proofs.Bools.{both_intro, yes_both, no_both, both_yes, both_assoc, both_cross}
@@ -106,7 +106,3 @@ module _ {A : Type 0} (q p : A) (ys : List A) where
       by : (b : Bool) → r x ≡ b → (any r (xs ++ q ∷ ys) ≡ true → any r (xs ++ p ∷ ys) ≡ true) → any r ((x ∷ xs) ++ p ∷ ys) ≡ true
       by true w k = rw w
       by false w k = rw w (k (rw w at e))
-
--- the first elements of the first n
-pub take_split : {A : Type 0} (l : List A) (i n : ℕ) → i ≤ n → take n l ≡ take i l ++ slice i n l
-take_split l i n h = sym (take-append-drop i (take n l)) ∙ ap (◌++ slice i n l) (take-take i n l h)

@@ -1,6 +1,6 @@
 -- The state's lists: the writes that it lists, held beside their entries, and the state with some of its fields anew.
 -- Document 01, "What the box's cache does" ("state in, event in, state and answer out") and "The ring in battery memory", last paragraph.
-use Rattle.std.specs.Prelude.{ℕ, suc, ◌+◌, ◌-◌, ◌<◌, ltb, Bool, true, false, List, [], ◌∷◌, ◌++◌, map, length, take, replicate}
+use Rattle.std.specs.Prelude.{◌≡◌, ℕ, suc, ◌+◌, ◌-◌, ◌<◌, ltb, Bool, true, false, List, [], ◌∷◌, ◌++◌, map, length, take, replicate, Option, MatchOption}
 use Rattle.layout.specs.Sizes.{most_entries}
 use Rattle.layout.specs.Bytes.{both}
 use Rattle.walk.specs.declared.Entry.{Entry}
@@ -40,6 +40,10 @@ pairs p (x ∷ xs) = both (all (p x) xs) (pairs p xs)
 abbrev pub place_of : {A : Type 0} → (A → Bool) → List A → ℕ
 place_of p [] = 0
 place_of p (x ∷ xs) = pick (p x) 0 (suc (place_of p xs))
+
+-- an answer says a place within so many, or that it is none of them
+abbrev pub IsPlaceOf : Option ℕ → ℕ → ℕ → Type 0
+IsPlaceOf answer place n = MatchOption answer (place ≡ n) (λ i. (i ≡ place) × (i < n))
 
 -- a value carried along from the front
 abbrev pub carry : {A B : Type 0} → (B → A → B) → B → List A → B

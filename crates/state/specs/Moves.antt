@@ -1,6 +1,8 @@
 -- The table of moves, exactly as printed; 9 means the move can't happen. Document 01, "Moves".
 use Rattle.std.specs.Prelude.{ℕ, List, [], ◌∷◌, get_or, eqb}
 use Rattle.state.specs.declared.Held.{Held}
+use Rattle.state.specs.declared.Event.{Event}
+use Rattle.state.specs.declared.Event.TheVariants.{Taken, Good, Bad, LetGo, Reopen}
 use Rattle.state.specs.Lists.{pick, in_flight}
 
 -- the table's columns
@@ -18,6 +20,14 @@ let_go = 3
 
 abbrev pub reopen : ℕ
 reopen = 4
+
+-- an event's column
+abbrev pub column : Event → ℕ
+column Taken = taken
+column Good = good
+column Bad = bad
+column LetGo = let_go
+column Reopen = reopen
 
 abbrev pub moves : List (List ℕ)
 moves =

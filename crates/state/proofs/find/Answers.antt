@@ -1,24 +1,13 @@
--- `state::find` meets its contract: `Searching`: nothing before the place passes.
-use mathlib.Core.Path.{sym, ◌∙◌}
-use native.Mathlib.Omega.{arith}
-use Rattle.state.specs.Lists.{no_held}
-use Rattle.state.proofs.Loops.{search_start, search_here, search_on, search_end}
+-- `state::find` meets its contract: the library's place is the definitions' (`is_place`).
+use Rattle.std.proofs.Common.{rules}
+use borrow.Author.Tests.{tests}
+use Rattle.std.proofs.lemmas.Iterator.{YieldsList-from_slice}
+use Rattle.std.proofs.lemmas.Iterator.Search.{position_from_yields_List}
+use Rattle.state.specs.Asks.{seeks}
+use Rattle.state.proofs.Library.{is_place}
 use Rattle.state.proofs.find.Goals as goal
 
-pub loop-i-init : goal.loop-i-init
-loop-i-init c = search_start _ _ _ (omega arith)
-
-pub offset_bounds-held-i : goal.offset_bounds-held-i
-offset_bounds-held-i c = omega (arith, c.loop-i.invariant.within)
-
-pub bounds-held-i : goal.bounds-held-i
-bounds-held-i c = omega (arith, c.loop-i.invariant.within)
-
-pub returns-then-is_sought : goal.returns-then-is_sought
-returns-then-is_sought c = sym (search_here _ _ _ no_held _ c.loop-i.invariant c.loop-i-test.true (sym c.is_sought.ensures ∙ c.if-is_sought.true))
-
-pub loop-i-preserved : goal.loop-i-preserved
-loop-i-preserved c = search_on _ _ _ no_held _ c.loop-i.invariant c.loop-i-test.true (sym c.is_sought.ensures ∙ c.if-is_sought.false)
-
 pub returns : goal.returns
-returns c = sym (search_end _ _ _ _ c.loop-i.invariant (omega arith))
+returns c = let p = seeks c.args.query in
+    is_place p c.args.held.now _
+    (position_from_yields_List p _ _ _ c.position.ensures.ran (YieldsList-from_slice c.args.held.now cc) (λ x b q k. search (rules, tests)))

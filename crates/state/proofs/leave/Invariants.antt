@@ -1,10 +1,6 @@
 -- `state::leave` meets its contract: `Counting`: those before the place leave, and take so many slots.
-use Prim.Native.Nat.{◌-◌}
 use Rattle.state.proofs.LettingGo.{Counting}
 use Rattle.state.proofs.leave.Given as goal
 
 abbrev pub invariant-loop-i : goal.invariant-loop-i
-invariant-loop-i l = Counting l.pins l.held l.count l.i l.slots
-
-abbrev pub decreases-loop-i : goal.decreases-loop-i
-decreases-loop-i l = l.count - l.i
+invariant-loop-i l = Counting l.pins l.held l.i l.slots

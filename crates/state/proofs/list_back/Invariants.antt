@@ -1,5 +1,4 @@
 -- `state::list_back` meets its contract: the invariant `filled`: the entries so far, each as it comes back, and zeros behind them.
-use Prim.Native.Nat.{◌≤◌, ◌-◌}
 use mathlib.Core.List.{map}
 use mathlib.Core.Path.{◌≡◌}
 use lib.ListN.{take}
@@ -8,7 +7,4 @@ use Rattle.state.specs.Moves.{move_of, reopen}
 use Rattle.state.proofs.list_back.Given as goal
 
 abbrev pub invariant-loop-i : goal.invariant-loop-i
-invariant-loop-i l = (l.i ≤ l.count) × (l.phase ≡ move_of unflushed reopen) × (l.writes ≡ filled 254 no_listed (map (λ e. listed_of (comes_back e)) (take l.i l.entries)))
-
-abbrev pub decreases-loop-i : goal.decreases-loop-i
-decreases-loop-i l = l.count - l.i
+invariant-loop-i l = (l.phase ≡ move_of unflushed reopen) × (l.writes ≡ filled 254 no_listed (map (λ e. listed_of (comes_back e)) (take l.i l.entries)))

@@ -1,12 +1,9 @@
--- `state::report_all` meets its contract: the invariant `passed`: those before the place have moved.
-use Prim.Native.Nat.{◌≤◌, ◌-◌}
+-- `state::report_all` meets its contract: those before the place have moved.
 use mathlib.Core.Path.{◌≡◌}
-use Rattle.state.specs.Moves.{reported}
-use Rattle.state.proofs.Loops.{passed}
+use mathlib.Core.List.{map, ◌++◌}
+use lib.ListN.{take, drop}
+use Rattle.state.specs.Moves.{column, reported}
 use Rattle.state.proofs.report_all.Given as goal
 
-abbrev pub invariant-loop-i : goal.invariant-loop-i
-invariant-loop-i l = (l.i ≤ l.count) × (l.out ≡ passed (reported l.event) l.i l.initial.out)
-
-abbrev pub decreases-loop-i : goal.decreases-loop-i
-decreases-loop-i l = l.count - l.i
+abbrev pub invariant-loop-one : goal.invariant-loop-one
+invariant-loop-one l = l.held ≡ map (reported (column l.event)) (take l.one-index l.initial.held) ++ drop l.one-index l.initial.held
