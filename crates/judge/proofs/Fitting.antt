@@ -1,14 +1,15 @@
 -- What the judge's loops keep: entries matched with listed writes, held beside them, pins and pairs of writes judged.
-use Prim.Native.Nat.{ℕ, zero, suc, ◌+◌, ◌≤◌, ◌<◌}
+use Prim.Native.Nat.{ℕ, suc, ◌+◌, ◌≤◌, ◌<◌}
+use Rattle.std.specs.Prelude.{Option, Some, None, is_some, is_none, slice_get, ◌&&◌}
+use Rattle.std.specs.List.{list_all, zip}
 use mathlib.Core.Path.{◌≡◌, refl, sym, ◌∙◌, ap}
 use mathlib.Core.Bool.{Bool, true, false, not}
 use mathlib.Core.List.{List, [], ◌∷◌, ◌++◌, map}
-use mathlib.Core.Logic.{◌⊎◌, inl, inr}
 use native.Mathlib.Omega.{arith}
 use native.Mathlib.Numerals.{add-one}
 use borrow.Author.Tests.{eq-eqb, ne_eqb, eqb-true, ltb-true, lt-ltb, le-ltb}
 use lib.ListN.{length, take, drop, get_or, set}
-use lib.Seq.{length-take-le, take-suc, take-take, get_or-take, split_at}
+use lib.Seq.{length-take-le, take-suc, take_all, split_at}
 use lib.Dec.{eqb, ltb}
 use Rattle.layout.specs.Sizes.{most_entries, number_limit}
 use Rattle.layout.specs.Bytes.{both}
@@ -19,12 +20,12 @@ use Rattle.walk.proofs.Rules.{valid_sound}
 use Rattle.state.specs.declared.Listed.{Listed}
 use Rattle.state.specs.declared.Pin.{Pin}
 use Rattle.state.specs.declared.Held.{Held}
-use Rattle.state.specs.Lists.{pick, any, all, pairs, unflushed, in_flight, flushed, gone, no_listed, no_held, no_pin, holding, entry_of, phase_fits, RisingTo}
+use Rattle.state.specs.Lists.{pick, any, all, IsPlaceOf, pairs, unflushed, in_flight, flushed, gone, no_listed, no_held, no_pin, holding, entry_of, phase_fits, RisingTo}
 use Rattle.state.specs.Pins.{is_due, pin_place}
-use Rattle.state.proofs.Finding.{none_place}
+use Rattle.state.proofs.Library.{none_found}
 use Rattle.state.proofs.Loops.{fill_more}
-use Rattle.state.proofs.Bools.{both_intro, both_yes, yes_both, both_assoc}
-use Rattle.state.proofs.Pairs.{all_always, all_snoc, all_right, all_at, pairs_snoc, pairs_before, none_all, any_append}
+use Rattle.state.proofs.Bools.{both_intro, yes_both, no_both}
+use Rattle.state.proofs.Pairs.{all_always, all_snoc, all_right, pairs_snoc, pairs_before, none_all}
 use Rattle.judge.specs.Fits.{listed_fits, list_fits, pins_differ, pin_fits, pins_fit, phases_fit, nodes_fit, pair_fits, is_in_flight, flight_fits, head_stays}
 use Rattle.judge.specs.Answers.{padded}
 
@@ -56,93 +57,39 @@ holding_snoc [] (v ∷ ws) e w k = absurd (omega arith)
 holding_snoc (x ∷ es) [] e w k = absurd (omega arith)
 holding_snoc (x ∷ es) (v ∷ ws) e w k = ap (◌∷◌ (record { entry = x; phase = v.phase })) (holding_snoc es ws e w (omega arith))
 
-list_snoc : (next : ℕ) (es : List Entry) (ws : List Listed) (e : Entry) (w : Listed) → length es ≡ length ws
-    → list_fits next (es ++ e ∷ []) (ws ++ w ∷ []) ≡ both (list_fits next es ws) (listed_fits next e.number w)
+-- a pass over both tests them in order
+pub list_zip : (next : ℕ) (es : List Entry) (ws : List Listed) → length es ≡ length ws
+    → list_all (λ x. listed_fits next x.0.number x.1) (zip es ws) ≡ list_fits next es ws
 unfolding list_fits
-list_snoc next [] [] e w k = both_yes (listed_fits next e.number w) ∙ sym (yes_both _)
-list_snoc next [] (v ∷ ws) e w k = absurd (omega arith)
-list_snoc next (x ∷ es) [] e w k = absurd (omega arith)
-list_snoc next (x ∷ es) (v ∷ ws) e w k =
-    ap (both (listed_fits next x.number v)) (list_snoc next es ws e w (omega arith)) ∙ both_assoc _ _ _
+list_zip next [] [] k = refl
+list_zip next [] (w ∷ ws) k = absurd (omega arith)
+list_zip next (e ∷ es) [] k = absurd (omega arith)
+list_zip next (e ∷ es) (w ∷ ws) k = at (listed_fits next e.number w) (list_zip next es ws (omega arith))
+  where
+    at : (b : Bool) → list_all (λ x. listed_fits next x.0.number x.1) (zip es ws) ≡ list_fits next es ws
+        → (b && list_all (λ x. listed_fits next x.0.number x.1) (zip es ws)) ≡ both b (list_fits next es ws)
+    at true e = e ∙ sym (yes_both _)
+    at false e = sym (no_both _)
 
--- the pass over entries and listed writes: what it tells of the first i
-pub record Upto (next : ℕ) (es : List Entry) (ws : List Listed) (n : ℕ) (hs : List Held) (m f : Bool) (i : ℕ) : Type 0 where
-  pub upto : i ≤ n
-  pub most : n ≤ most_entries
-  pub entries : n ≤ length es
-  pub writes : n ≤ length ws
-  pub held : hs ≡ padded (holding (take i es) (take i ws))
-  pub matched : m ≡ list_fits next (take i es) (take i ws)
-  pub flying : f ≡ any is_in_flight (holding (take i es) (take i ws))
+-- the pass that holds the entries: those of the first i stand in front
+module _ (es : List Entry) (ws : List Listed) (k : length es ≡ length ws) (few : length es ≤ most_entries) where
+  pub hold_on : (held : List Held) (i : ℕ) → i < length es → held ≡ padded (holding (take i es) (take i ws))
+      → set held i (record { entry = get_or es i no_entry; phase = (get_or ws i no_listed).phase }) ≡ padded (holding (take (i + 1) es) (take (i + 1) ws))
+  hold_on held i h e =
+      let same : length (take i es) ≡ length (take i ws) = length-take-le i es (omega arith) ∙ sym (length-take-le i ws (omega arith)) in
+      let before = holding (take i es) (take i ws) in
+      let long : length before ≡ i = holding_length (take i es) (take i ws) same ∙ length-take-le i es (omega arith) in
+      let one : Held = record { entry = get_or es i no_entry; phase = (get_or ws i no_listed).phase } in
+      let more : holding (take (i + 1) es) (take (i + 1) ws) ≡ before ++ one ∷ [] =
+      rw (add-one i, take-suc es i no_entry (omega arith), take-suc ws i no_listed (omega arith))
+      (holding_snoc (take i es) (take i ws) (get_or es i no_entry) (get_or ws i no_listed) same) in
+      rw e (fill_more most_entries no_held before i one long (omega arith) ∙ ap padded (sym more))
 
-module _ (next : ℕ) (es : List Entry) (ws : List Listed) (n : ℕ) where
-  pub hold_start : n ≤ most_entries → n ≤ length es → n ≤ length ws → (held : List Held) → held ≡ padded [] → Upto next es ws n held true false 0
-  unfolding list_fits
-  hold_start m h k held e =
-      record {
-        upto = omega arith;
-        most = m;
-        entries = h;
-        writes = k;
-        held = e;
-        matched = refl;
-        flying = refl;
-      }
-
-  module _ (held : List Held) (matched flying : Bool) (i : ℕ) (s : Upto next es ws n held matched flying i) where
-    module _ (h : i < n) where
-      abbrev one : Held
-      one = record { entry = get_or es i no_entry; phase = (get_or ws i no_listed).phase }
-
-      abbrev before : List Held
-      before = holding (take i es) (take i ws)
-
-      alike : length (take i es) ≡ length (take i ws)
-      alike =
-          let a = s.entries in
-          let b = s.writes in
-          length-take-le i es (omega arith) ∙ sym (length-take-le i ws (omega arith))
-
-      more : holding (take (i + 1) es) (take (i + 1) ws) ≡ before ++ one ∷ []
-      more =
-          let a = s.entries in
-          let b = s.writes in
-          rw (add-one i, take-suc es i no_entry (omega arith), take-suc ws i no_listed (omega arith))
-          (holding_snoc (take i es) (take i ws) (get_or es i no_entry) (get_or ws i no_listed) alike)
-
-      pub hold_on : (b : Bool) → b ≡ both matched (listed_fits next (get_or es i no_entry).number (get_or ws i no_listed)) → (f : Bool)
-          → f ≡ pick flying true (eqb (get_or ws i no_listed).phase in_flight) → Upto next es ws n (set held i one) b f (i + 1)
-      hold_on b e f k =
-          let a = s.entries in
-          let c = s.writes in
-          let m = s.most in
-          let long : length before ≡ i = holding_length (take i es) (take i ws) alike ∙ length-take-le i es (omega arith) in
-          record {
-            upto = omega arith;
-            most = s.most;
-            entries = s.entries;
-            writes = s.writes;
-            held = rw s.held (fill_more most_entries no_held before i one long (omega arith) ∙ ap padded (sym more));
-            matched = e
-                ∙ ap (λ x. both x (listed_fits next (get_or es i no_entry).number (get_or ws i no_listed))) s.matched
-                ∙ sym
-                (rw (add-one i, take-suc es i no_entry (omega arith), take-suc ws i no_listed (omega arith))
-                (list_snoc next (take i es) (take i ws) (get_or es i no_entry) (get_or ws i no_listed) alike));
-            flying = k ∙ ap (λ x. pick x true (is_in_flight one)) s.flying ∙ either_snoc ∙ sym (any_append is_in_flight before (one ∷ [])) ∙ ap (any is_in_flight) (sym more);
-          }
-        where
-          either_snoc : pick (any is_in_flight before) true (is_in_flight one) ≡ pick (any is_in_flight before) true (any is_in_flight (one ∷ []))
-          either_snoc = ap (pick (any is_in_flight before) true) (alone (is_in_flight one))
-            where
-              alone : (b : Bool) → b ≡ pick b true false
-              alone true = refl
-              alone false = refl
-
-    pub hold_end : n ≤ i → Upto next es ws n held matched flying n
-    hold_end h =
-        let u = s.upto in
-        let e : i ≡ n = omega arith in
-        rw e at s
+  pub hold_end : (held : List Held) (i : ℕ) → length es ≤ i → held ≡ padded (holding (take i es) (take i ws)) → held ≡ padded (holding es ws)
+  hold_end held i h e =
+      let a : take i es ≡ es = take_all i es h in
+      let b : take i ws ≡ ws = take_all i ws (omega arith) in
+      rw (a, b) at e
 
 -- numbers rise, as the entries' do, below what is above them all
 pub holding_rising : (es : List Entry) (ws : List Listed) (last : ℕ) → Rising last es → RisingTo number_limit last (holding es ws)
@@ -205,6 +152,10 @@ module _ (next : ℕ) (ps : List Pin) (i : ℕ) (h : i < length ps) where
   pins_stop k =
       sym (not_true_false (pins_fit next ps) (λ e. true_not_false _ (pins_within next (take i ps) (get_or ps i no_pin) (drop (suc i) ps) (ap (pins_fit next) (sym (split_at ps i no_pin h)) ∙ e)) k))
 
+twice : (b : Bool) → b ≡ not (not b)
+twice true = refl
+twice false = refl
+
 -- a pin's number against those before it
 module _ (next : ℕ) (ps : List Pin) (p : Pin) where
   pub pin_high : next ≤ p.number → false ≡ pin_fits next ps p
@@ -215,11 +166,11 @@ module _ (next : ℕ) (ps : List Pin) (p : Pin) where
   unfolding pin_fits pins_differ
   pin_free h z = sym (both_intro _ _ (lt-ltb p.number next h) (all_always (λ q. pins_differ q p) (λ q. rw (eq-eqb p.number 0 z)) ps))
 
-  pub pin_live : p.number < next → (p.number ≡ 0 → ⊥) → (n : ℕ) → n ≡ pin_place p.number ps → eqb n (length ps) ≡ pin_fits next ps p
+  -- the search among them tells the place of the first with that number
+  pub pin_live : p.number < next → (p.number ≡ 0 → ⊥) → (found : Option ℕ) → IsPlaceOf found (pin_place p.number ps) (length ps) → is_none found ≡ pin_fits next ps p
   unfolding pin_fits pins_differ both
-  pin_live h z n e =
-      ap (λ i. eqb i (length ps)) e
-      ∙ none_place (λ q. eqb q.number p.number) ps
+  pin_live h z found e =
+      none_found (λ q. eqb q.number p.number) ps found (is_none found) (twice (is_some found)) e
       ∙ none_all (λ q. eqb q.number p.number) ps
       ∙ rw (lt-ltb p.number next h, ne_eqb p.number 0 z)
 
@@ -281,43 +232,38 @@ unfolding pair_fits phases_fit nodes_fit
 follows h k e =
     rw e (no_clash (eqb h.entry.node k.entry.node) (not (eqb h.phase flushed)) (eqb h.phase unflushed) (eqb h.phase in_flight))
 
-module _ (l : List Held) (n j : ℕ) (m : n ≤ length l) (h : j < n) where
+-- so all may stand before one
+pub all_follow : (hs : List Held) (k : Held) → k.phase ≡ unflushed → true ≡ all (λ x. pair_fits x k) hs
+all_follow hs k e = sym (all_always (λ x. pair_fits x k) (λ x. follows x k e) hs)
+
+module _ (l : List Held) (j : ℕ) (h : j < length l) where
   pub order_more : pairs pair_fits (take j l) ≡ true → all (λ x. pair_fits x (get_or l j no_held)) (take j l) ≡ true → pairs pair_fits (take (j + 1) l) ≡ true
   order_more e k =
-      let w : take (j + 1) l ≡ take j l ++ get_or l j no_held ∷ [] = rw add-one (take-suc l j no_held (omega arith)) in
+      let w : take (j + 1) l ≡ take j l ++ get_or l j no_held ∷ [] = rw add-one (take-suc l j no_held h) in
       ap (pairs pair_fits) w ∙ pairs_snoc pair_fits (take j l) (get_or l j no_held) ∙ both_intro _ _ e k
 
-  pub order_stop : (i : ℕ) → i < j → pair_fits (get_or l i no_held) (get_or l j no_held) ≡ false → false ≡ pairs pair_fits (take n l)
-  order_stop i q k = sym (not_true_false (pairs pair_fits (take n l)) (λ e. true_not_false _ (fits e) k))
-    where
-      fits : pairs pair_fits (take n l) ≡ true → pair_fits (get_or l i no_held) (get_or l j no_held) ≡ true
-      fits e =
-          let a : length (take n l) ≡ n = length-take-le n l m in
-          let b : length (take j l) ≡ j = length-take-le j l (omega arith) in
-          let w : take n l ≡ take j l ++ get_or l j no_held ∷ drop (suc j) (take n l) =
-          split_at (take n l) j no_held (omega arith) ∙ rw (take-take j n l (omega arith), get_or-take n l j no_held h) in
-          let o = pairs_before pair_fits (take j l) (drop (suc j) (take n l)) (get_or l j no_held) (ap (pairs pair_fits) (sym w) ∙ e) in
-          rw (get_or-take j l i no_held q) at (all_at (λ x. pair_fits x (get_or l j no_held)) no_held (take j l) i o (omega arith))
-
--- where the code begins to judge a later write: behind all before it, if it is Unflushed, or at the first
-pub order_start : (l : List Held) (j i : ℕ) (k : Held) → ((k.phase ≡ unflushed) × (i ≡ j)) ⊎ (i ≡ 0)
-    → (i ≤ j) × (all (λ x. pair_fits x k) (take i l) ≡ true)
-order_start l j i k (inl o) =
-    let e = o.1 in
-    (omega arith, all_always (λ x. pair_fits x k) (λ x. follows x k o.0) (take i l))
-order_start l j i k (inr e) = (omega arith, rw e)
+  pub order_stop : all (λ x. pair_fits x (get_or l j no_held)) (take j l) ≡ false → false ≡ pairs pair_fits l
+  order_stop k =
+      sym (not_true_false (pairs pair_fits l) (λ e. true_not_false _ (pairs_before pair_fits (take j l) (drop (suc j) l) (get_or l j no_held) (ap (pairs pair_fits) (sym (split_at l j no_held h)) ∙ e)) k))
 
 -- ---- the head
 
-pub head_none : (ps : List Pin) (l : List Held) (n : ℕ) → n ≡ 0 → true ≡ head_stays ps (take n l)
+pub head_some : (ps : List Pin) (hs : List Held) (h : Held) → slice_get hs 0 ≡ Some h → (b : Bool) → b ≡ is_due ps h → not b ≡ head_stays ps hs
 unfolding head_stays
-head_none ps l n e = rw e
+head_some ps [] h o b e = never (cc)
+head_some ps (k ∷ hs) h o b e = let same : k ≡ h = cc in rw (same, e)
 
-pub head_some : (ps : List Pin) (l : List Held) (n : ℕ) → (n ≡ 0 → ⊥) → n ≤ length l → (b : Bool) → b ≡ is_due ps (get_or l 0 no_held) → not b ≡ head_stays ps (take n l)
+pub head_none : (ps : List Pin) (hs : List Held) → slice_get hs 0 ≡ None → true ≡ head_stays ps hs
 unfolding head_stays
-head_some ps [] n z m b e = absurd (z (omega arith))
-head_some ps (h ∷ l) zero z m b e = absurd (z refl)
-head_some ps (h ∷ l) (suc n) z m b e = ap not e
+head_none ps [] o = refl
+head_none ps (k ∷ hs) o = never (cc)
+
+pub head_fits : (hs : List Held) (h : Held) → slice_get hs 0 ≡ Some h → all phase_fits hs ≡ true → h.phase < 4
+head_fits [] h o e = never (cc)
+head_fits (k ∷ hs) h o e =
+    let same : k ≡ h = cc in
+    let low : k.phase < gone = ltb-true _ _ (both_left _ _ e) in
+    rw (← same) (omega arith)
 
 -- ---- a flush and what is In flight
 

@@ -1,18 +1,18 @@
 -- "State fits" as a record of its clauses, and what each test of the judge comes to.
 use Prim.Native.Nat.{ℕ, ◌≤◌, ◌-◌}
 use Rattle.std.specs.Prelude.{Result, Ok, Err}
+use Rattle.std.specs.List.{list_all, zip}
 use mathlib.Core.Path.{◌≡◌, refl, sym, ◌∙◌, ap}
 use mathlib.Core.Bool.{Bool, true, false}
 use mathlib.Core.List.{List, ◌++◌}
 use native.Mathlib.Omega.{arith}
 use borrow.Author.Tests.{eqb-true, eq-eqb}
-use lib.ListN.{length, take, get_or, replicate}
-use lib.Seq.{length-take-le, take_at}
+use lib.ListN.{length, take, replicate}
+use lib.Seq.{take_at}
 use lib.Dec.{eqb}
 use Rattle.layout.specs.Sizes.{most_entries}
-use Rattle.layout.specs.Bytes.{both}
 use Rattle.layout.specs.declared.Ring.{Ring}
-use Rattle.layout.proofs.Tests.{both_left, both_right, both_ext, not_true_false, never}
+use Rattle.layout.proofs.Tests.{both_left, both_right, not_true_false, true_not_false, never}
 use Rattle.reason.specs.declared.Reason.{Reason}
 use Rattle.reason.specs.declared.Reason.TheVariants.{StateUnfit}
 use Rattle.walk.specs.declared.Entry.{Entry}
@@ -21,13 +21,11 @@ use Rattle.walk.specs.declared.Walked.{Walked}
 use Rattle.walk.proofs.Readings.{answer_refused, reading_sound, entries_few, entries_rise}
 use Rattle.state.specs.declared.State.{State}
 use Rattle.state.specs.declared.Held.{Held}
-use Rattle.state.specs.Lists.{any, all, holding, listed, no_held, phase_fits}
-use Rattle.state.proofs.Bools.{both_intro, both_known}
-use Rattle.state.proofs.Loops.{filled_long}
-use Rattle.judge.specs.declared.Seen.{Seen}
-use Rattle.judge.specs.Fits.{list_fits, next_fits, pins_fit, is_in_flight, held_fits, fits}
-use Rattle.judge.specs.Answers.{SeenWell, judged_of}
-use Rattle.judge.proofs.Fitting.{list_length, holding_length, holding_phases, Upto}
+use Rattle.state.specs.Lists.{all, holding, listed, phase_fits}
+use Rattle.state.proofs.Bools.{both_intro}
+use Rattle.judge.specs.Fits.{listed_fits, list_fits, next_fits, pins_fit, held_fits, fits}
+use Rattle.judge.specs.Answers.{padded, judged_of}
+use Rattle.judge.proofs.Fitting.{list_zip, holding_length, holding_phases}
 
 pub record IsFit (es : List Entry) (s : State) : Type 0 where
   pub count : s.count ≡ length es
@@ -59,57 +57,47 @@ module _ (es : List Entry) (s : State) where
   pub unfit : (g : Ring) → fits es s ≡ false → Err StateUnfit ≡ judged_of (readable g es) s
   unfit g k = rw k
 
--- the judge goes by the walk's count, which is the state's once that is tested
-module _ (entries : List Entry) (n : ℕ) (s : State) (m : n ≤ length entries) where
-  long : length (take n entries) ≡ n
-  long = length-take-le n entries m
+  -- a test that fails unfits the state
+  not_fit : (IsFit es s → ⊥) → fits es s ≡ false
+  not_fit k = not_true_false _ (λ e. k (fits_sound e))
 
-  pub judge_count : (s.count ≡ n → ⊥) → fits (take n entries) s ≡ false
-  judge_count k = not_true_false _ (λ e. k ((fits_sound (take n entries) s e).count ∙ long))
+  pub unfit_count : (s.count ≡ length es → ⊥) → fits es s ≡ false
+  unfit_count k = not_fit (λ o. k o.count)
 
-  -- once the pass is over
-  module _ (held : List Held) (k f : Bool) (u : Upto s.next entries s.writes n held k f n) where
-    abbrev seen : Seen
-    seen = record { matched = k; flying = f; head = get_or held 0 no_held }
+  pub unfit_list : list_fits s.next es (listed s) ≡ false → fits es s ≡ false
+  unfit_list k = not_fit (λ o. true_not_false _ o.list k)
 
-    -- of held writes that match
-    module _ (l : k ≡ true) where
-      matched : list_fits s.next (take n entries) (take n s.writes) ≡ true
-      matched = sym u.matched ∙ l
+  pub unfit_next : next_fits s.next s.flush ≡ false → fits es s ≡ false
+  unfit_next k = not_fit (λ o. true_not_false _ o.next k)
 
-      many : length (holding (take n entries) (take n s.writes)) ≡ n
-      many = holding_length (take n entries) (take n s.writes) (list_length s.next (take n entries) (take n s.writes) matched) ∙ long
+  pub unfit_pins : pins_fit s.next s.pins ≡ false → fits es s ≡ false
+  unfit_pins k = not_fit (λ o. true_not_false _ o.pins k)
 
-      front : take n held ≡ holding (take n entries) (take n s.writes)
-      front = ap (take n) u.held ∙ take_at (holding (take n entries) (take n s.writes)) _ n many
+  pub unfit_held : held_fits s (holding es (listed s)) ≡ false → fits es s ≡ false
+  unfit_held k = not_fit (λ o. true_not_false _ o.held k)
 
-      pub judge_well : SeenWell held n seen
-      judge_well =
-          let o = u.most in
-          let w : length held ≡ most_entries =
-          ap length u.held ∙ filled_long most_entries no_held (holding (take n entries) (take n s.writes)) (let k = many in omega arith) in
-          record {
-            long = omega arith;
-            flying = u.flying ∙ ap (any is_in_flight) (sym front);
-            head = refl;
-            phases = ap (all phase_fits) front ∙ holding_phases s.next (take n entries) (take n s.writes) matched;
-          }
+  pub judge_fits : (g : Ring) (held : List Held) → fits es s ≡ true → held ≡ padded (holding es (listed s))
+      → Ok (record { ring = g; count = length es; held = held }) ≡ judged_of (readable g es) s
+  judge_fits g held q e = rw (q, e)
 
-    module _ (e : s.count ≡ n) where
-      same : listed s ≡ take n s.writes
-      same = ap (λ c. take c s.writes) e
+-- what the code found of the entries es, which it calls es'
+module _ (s : State) (es es' : List Entry) (e : es' ≡ es) (n : s.count ≡ length es') (k : length es' ≡ length (listed s)) where
+  pub listed_by : (b : Bool) → b ≡ list_all (λ x. listed_fits s.next x.0.number x.1) (zip es' (listed s)) → b ≡ list_fits s.next es (listed s)
+  listed_by b o = o ∙ list_zip s.next es' (listed s) k ∙ ap (λ es. list_fits s.next es (listed s)) e
 
-      pub judge_by : (b : Bool) → b ≡ both k (both (next_fits s.next s.flush) (both (pins_fit s.next s.pins) (held_fits s (take n held))))
-          → b ≡ fits (take n entries) s
-      unfolding fits
-      judge_by b q =
-          q
-          ∙ both_ext k _ _ (λ l. ap (λ x. both (next_fits s.next s.flush) (both (pins_fit s.next s.pins) (held_fits s x))) (front l))
-          ∙ ap (λ x. both x (both (next_fits s.next s.flush) (both (pins_fit s.next s.pins) (held_fits s (holding (take n entries) (take n s.writes)))))) u.matched
-          ∙ sym (both_known _ _ (eq-eqb _ _ (e ∙ sym long)) ∙ rw same)
+  module _ (held : List Held) (h : held ≡ padded (holding es' (listed s))) where
+    pub held_front : take (length es') held ≡ holding es (listed s)
+    held_front =
+        ap (take (length es')) h ∙ take_at (holding es' (listed s)) _ (length es') (holding_length es' (listed s) k) ∙ ap (λ es. holding es (listed s)) e
 
-      pub judge_fits : (g : Ring) → fits (take n entries) s ≡ true → Ok (record { ring = g; count = n; held = held }) ≡ judged_of (readable g (take n entries)) s
-      judge_fits g q = rw (q, long, u.held, same)
+    pub held_phases : list_fits s.next es (listed s) ≡ true → all phase_fits (take (length es') held) ≡ true
+    held_phases o = ap (all phase_fits) held_front ∙ holding_phases s.next es (listed s) o
+
+    pub held_by : (b : Bool) → b ≡ held_fits s (take (length es') held) → b ≡ held_fits s (holding es (listed s))
+    held_by b o = o ∙ ap (held_fits s) held_front
+
+    pub judged_by : (g : Ring) → fits es s ≡ true → Ok (record { ring = g; count = length es'; held = held }) ≡ judged_of (readable g es) s
+    judged_by g q = ap (λ es. Ok (record { ring = g; count = length es; held = held })) e ∙ judge_fits es s g held q (h ∙ ap (λ es. padded (holding es (listed s))) e)
 
 pub ok_same : {A B : Type 0} (x y : A) → ◌≡◌ {A = Result A B} (Ok x) (Ok y) → x ≡ y
 ok_same x y e = cc

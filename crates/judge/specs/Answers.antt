@@ -1,15 +1,14 @@
 -- The judge's answer: 8 and 12 from one walk, and the held writes with nothing behind them.
-use Rattle.std.specs.Prelude.{ℕ, ◌≤◌, ◌≡◌, true, List, length, get_or, take, Result, Ok, Err}
+use Rattle.std.specs.Prelude.{List, length, Result, Ok, Err}
 use Rattle.layout.specs.Sizes.{most_entries}
 use Rattle.reason.specs.declared.Reason.{Reason}
 use Rattle.reason.specs.declared.Reason.TheVariants.{Unreadable, StateUnfit}
 use Rattle.walk.specs.Walk.{Reading, readable, unreadable}
 use Rattle.state.specs.declared.State.{State}
 use Rattle.state.specs.declared.Held.{Held}
-use Rattle.state.specs.Lists.{pick, any, all, filled, no_held, listed, holding, phase_fits}
+use Rattle.state.specs.Lists.{pick, filled, no_held, listed, holding}
 use Rattle.judge.specs.declared.Judged.{Judged}
-use Rattle.judge.specs.declared.Seen.{Seen}
-use Rattle.judge.specs.Fits.{is_in_flight, fits}
+use Rattle.judge.specs.Fits.{fits}
 
 abbrev pub padded : List Held → List Held
 padded hs = filled most_entries no_held hs
@@ -20,10 +19,3 @@ judged_of (readable g es) s =
     pick (fits es s)
     (Ok (record { ring = g; count = length es; held = padded (holding es (listed s)) }))
     (Err StateUnfit)
-
--- what was seen is true of the first n held writes, and each is in one of three states
-pub record SeenWell (held : List Held) (n : ℕ) (x : Seen) : Type 0 where
-  pub long : n ≤ length held
-  pub flying : x.flying ≡ any is_in_flight (take n held)
-  pub head : x.head ≡ get_or held 0 no_held
-  pub phases : all phase_fits (take n held) ≡ true

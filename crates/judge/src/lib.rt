@@ -2,18 +2,19 @@
 // Document 01, "When the box says no", last paragraph. Nothing here stores a byte.
 #![tactic(auto)]
 
-ghost use Rattle.std.specs.Prelude.{◌≡◌, true, false, not, ◌≤◌, ◌<◌, take, replicate, eqb};
+ghost use Rattle.std.specs.Prelude.{◌≡◌, true, false, not, ◌≤◌, ◌<◌, length, take, replicate, eqb};
+ghost use Rattle.std.specs.List.{list_all, list_any, zip};
 ghost use Rattle.layout.specs.Sizes.{most_entries};
 ghost use Rattle.layout.specs.Bytes.{both};
 ghost use Rattle.walk.specs.Walk.{readable, reading_of};
-ghost use Rattle.state.specs.Lists.{pick, pairs, no_held, in_flight, most_pins};
-ghost use Rattle.judge.specs.Fits.{listed_fits, next_fits, pin_fits, pins_fit, phases_fit, pair_fits, held_fits};
-ghost use Rattle.judge.specs.Answers.{SeenWell, judged_of};
+ghost use Rattle.state.specs.Lists.{pick, all, pairs, holding, no_held, phase_fits};
+ghost use Rattle.judge.specs.Fits.{listed_fits, is_in_flight, next_fits, pin_fits, pins_fit, phases_fit, pair_fits, head_stays, held_fits};
+ghost use Rattle.judge.specs.Answers.{padded, judged_of};
 
 use layout::Ring;
 use reason::Reason;
-use state::{FLUSHED, GONE, Held, IN_FLIGHT, Listed, PINS, Pin, State, UNFLUSHED};
-use walk::Walked;
+use state::{FLUSHED, GONE, Held, IN_FLIGHT, Listed, Pin, State, UNFLUSHED};
+use walk::{Entry, Walked};
 
 // A ring that can be read, and whose state fits it, with the held writes: count of them, oldest first, and zeros behind them.
 #[derive(Clone, Copy)]
@@ -29,19 +30,8 @@ impl Judged {
         requires { self.now.count ≤ most_entries }
         ensures { result.now ≡ take self.now.count self.now.held }
     {
-        &self.held[0..self.count]
+        &self.held[..self.count]
     }
-}
-
-// What the pass over the ring's entries and the listed writes tells beside the held writes.
-#[derive(Clone, Copy)]
-struct Seen {
-    // Whether the listed writes are the ring's entries, in order.
-    matched: bool,
-    // Whether any is In flight.
-    flying: bool,
-    // The oldest, or zeros.
-    head: Held,
 }
 
 // Whether a listed write has the ring's number, below the next, and is Unflushed, In flight or Flushed.
@@ -68,30 +58,35 @@ fn none_held() -> [Held; Ring::ENTRIES]
     [Held { entry, phase: 0 }; Ring::ENTRIES]
 }
 
-// Whether all listed writes before matched the ring's entries, and one more does.
-fn matches_on(matched: bool, listed: Listed, number: u64, next: u64) -> bool
-    ensures { result ≡ both matched (listed_fits next number listed) }
+// The entries beside their states.
+fn hold(entries: &[Entry], writes: &[Listed]) -> [Held; Ring::ENTRIES]
+    requires { (length entries.now ≡ length writes.now) × (length entries.now ≤ most_entries) }
+    ensures { result ≡ padded (holding entries.now writes.now) }
 {
-    if !matched {
-        return false;
+    let mut held = none_held();
+    for (i, entry) in entries.iter().enumerate() {
+        held[i] = Held {
+            entry: *entry,
+            phase: writes[i].phase,
+        };
     }
-    one_fits(listed, number, next)
+    held
 }
 
-// Whether any write before was In flight, or one more is.
-fn flies_on(flying: bool, phase: u8) -> bool
-    ensures { result ≡ pick flying true (eqb phase in_flight) }
+// Whether the listed writes are the ring's entries, in order.
+fn list_fits(entries: &[Entry], writes: &[Listed], next: u64) -> bool
+    requires { length entries.now ≡ length writes.now }
+    ensures { result ≡ list_all (λ x. listed_fits next x.0.number x.1) (zip entries.now writes.now) }
 {
-    if flying {
-        return true;
-    }
-    phase == IN_FLIGHT
+    entries
+        .iter()
+        .zip(writes)
+        .all(|(entry, listed)| one_fits(*listed, entry.number, next))
 }
 
-// Whether a pin's number is below the next, and none of the first i records has it.
-fn pin_fits(pins: [Pin; PINS], i: usize, pin: Pin, next: u64) -> bool
-    requires { i < most_pins }
-    ensures { result ≡ pin_fits next (take i pins) pin }
+// Whether a pin's number is below the next, and none of those before it has it.
+fn pin_fits(before: &[Pin], pin: Pin, next: u64) -> bool
+    ensures { result ≡ pin_fits next before.now pin }
 {
     if next <= pin.number {
         return false;
@@ -99,72 +94,66 @@ fn pin_fits(pins: [Pin; PINS], i: usize, pin: Pin, next: u64) -> bool
     if pin.number == 0 {
         return true;
     }
-    state::find_pin(pins, i, pin.number) == i
+    state::find_pin(before, pin.number).is_none()
 }
 
 // Whether all pins' numbers are below the next and differ.
-fn pins_fit(pins: [Pin; PINS], next: u64) -> bool
-    ensures { result ≡ pins_fit next pins }
+fn pins_fit(pins: &[Pin], next: u64) -> bool
+    ensures { result ≡ pins_fit next pins.now }
 {
-    let mut i: usize = 0;
-    while i < PINS {
-        let pin = pins[i];
-        if !pin_fits(pins, i, pin, next) {
+    for (i, pin) in pins.iter().enumerate() {
+        if !pin_fits(&pins[..i], *pin, next) {
             return false;
         }
-        i += 1;
     }
     true
 }
 
 // Whether two states may stand in this order, in writes of one node.
+#[tactic(auto, using(std::proofs::lemmas::Bool::Decides::nat_tests), unfolding(crate::specs::Fits::phases_fit, layout::specs::Bytes::both))]
 fn phases_fit(earlier: u8, later: u8) -> bool
     ensures { result ≡ phases_fit earlier later }
 {
-    if later == FLUSHED {
-        return earlier == FLUSHED;
+    match later {
+        FLUSHED => earlier == FLUSHED,
+        IN_FLIGHT => earlier != UNFLUSHED,
+        _ => true,
     }
-    if later == IN_FLIGHT {
-        return earlier != UNFLUSHED;
-    }
-    true
 }
 
 // Whether a write may stand before a later one.
-fn pair_fits(earlier: Held, later: Held) -> bool
-    ensures { result ≡ pair_fits earlier later }
+#[tactic(auto, using(std::proofs::lemmas::Bool::Decides::nat_tests), unfolding(crate::specs::Fits::pair_fits, crate::specs::Fits::nodes_fit, layout::specs::Bytes::both))]
+fn pair_fits(earlier: &Held, later: &Held) -> bool
+    ensures { result ≡ pair_fits earlier.now later.now }
 {
-    let one = earlier.entry;
-    let other = later.entry;
-    if one.node == other.node {
+    if earlier.entry.node == later.entry.node {
         return phases_fit(earlier.phase, later.phase);
     }
-    if earlier.phase != IN_FLIGHT {
-        return true;
-    }
-    later.phase != IN_FLIGHT
+    earlier.phase != IN_FLIGHT || later.phase != IN_FLIGHT
 }
 
-// Whether every write may stand before every later one. An Unflushed write may follow any, so most are passed at once.
-fn order_fits(held: [Held; Ring::ENTRIES], count: usize) -> bool
-    requires { count ≤ most_entries }
-    ensures { result ≡ pairs pair_fits (take count held) }
+// Whether all of those may stand before a later one.
+fn all_fit(earlier: &[Held], later: &Held) -> bool
+    ensures { result ≡ list_all (λ x. pair_fits x later.now) earlier.now }
 {
-    let mut j: usize = 0;
-    while j < count {
-        let later = held[j];
-        let mut i: usize = 0;
-        if later.phase == UNFLUSHED {
-            i = j;
+    earlier.iter().all(|one| pair_fits(one, later))
+}
+
+// Whether a write may stand behind all of those. An Unflushed write may follow any, so most are passed at once.
+fn follows(earlier: &[Held], later: &Held) -> bool
+    ensures { result ≡ all (λ x. pair_fits x later.now) earlier.now }
+{
+    later.phase == UNFLUSHED || all_fit(earlier, later)
+}
+
+// Whether every write may stand before every later one.
+fn order_fits(held: &[Held]) -> bool
+    ensures { result ≡ pairs pair_fits held.now }
+{
+    for (j, later) in held.iter().enumerate() {
+        if !follows(&held[..j], later) {
+            return false;
         }
-        while i < j {
-            let earlier = held[i];
-            if !pair_fits(earlier, later) {
-                return false;
-            }
-            i += 1;
-        }
-        j += 1;
     }
     true
 }
@@ -173,106 +162,83 @@ fn order_fits(held: [Held; Ring::ENTRIES], count: usize) -> bool
 fn flight_fits(flying: bool, flush: u64) -> bool
     ensures { result ≡ pick (eqb flush 0) (not flying) flying }
 {
-    if flush == 0 {
-        return !flying;
+    flying == (flush != 0)
+}
+
+// Whether the head entry isn't due to leave.
+fn head_stays(held: &[Held], pins: &[Pin]) -> bool
+    requires { all phase_fits held.now ≡ true }
+    ensures { result ≡ head_stays pins.now held.now }
+{
+    match held.first() {
+        Some(head) => !state::is_due(pins, *head),
+        None => true,
     }
-    flying
+}
+
+// Whether any is In flight.
+fn is_any_in_flight(held: &[Held]) -> bool
+    ensures { result ≡ list_any is_in_flight held.now }
+{
+    held.iter().any(|one| one.phase == IN_FLIGHT)
 }
 
 // What is judged of the held writes: their order, the flush, and that the head entry stays.
-fn held_fits(held: [Held; Ring::ENTRIES], count: usize, seen: Seen, s: State) -> bool
-    requires { (count ≤ most_entries) × SeenWell held count seen }
-    ensures { result ≡ held_fits s (take count held) }
+fn held_fits(held: &[Held], s: &State) -> bool
+    requires { all phase_fits held.now ≡ true }
+    ensures { result ≡ held_fits s.now held.now }
 {
-    let head = seen.head;
-    let pins = s.pins;
-    if !order_fits(held, count) {
+    if !order_fits(held) {
         return false;
     }
-    if !flight_fits(seen.flying, s.flush) {
+    if !flight_fits(is_any_in_flight(held), s.flush) {
         return false;
     }
-    if count == 0 {
-        return true;
-    }
-    !state::is_due(pins, head)
+    head_stays(held, &s.pins)
 }
 
 // Whether the next number is in its bounds.
+#[tactic(auto, using(std::proofs::lemmas::Bool::Decides::nat_tests), unfolding(crate::specs::Fits::next_fits, layout::specs::Bytes::both))]
 fn next_fits(next: u64, flush: u64) -> bool
     ensures { result ≡ next_fits next flush }
 {
-    if next <= flush {
-        return false;
-    }
-    if Ring::NUMBERS < next {
-        return false;
-    }
-    true
+    flush < next && next <= Ring::NUMBERS
 }
 
-// What is judged of a state that lists as many writes as the ring has.
-fn state_fits(held: [Held; Ring::ENTRIES], count: usize, seen: Seen, s: State) -> bool
-    requires { (count ≤ most_entries) × (seen.matched ≡ true → SeenWell held count seen) }
-    ensures { result ≡ both seen.matched (both (next_fits s.next s.flush) (both (pins_fit s.next s.pins) (held_fits s (take count held)))) }
+// The judge of a ring that is readable: the entries are held beside their states, and then judged.
+fn judge_walked(walked: &Walked, s: &State) -> Result<Judged, Reason>
+    requires { walked.now.count ≤ most_entries }
+    ensures { result ≡ judged_of (readable walked.now.ring (take walked.now.count walked.now.entries)) s.now }
 {
-    let pins = s.pins;
-    if !seen.matched {
-        return false;
-    }
-    if !next_fits(s.next, s.flush) {
-        return false;
-    }
-    if !pins_fit(pins, s.next) {
-        return false;
-    }
-    held_fits(held, count, seen, s)
-}
-
-// The judge of a ring that is readable: the entries are held beside their states in one pass over both, and then judged. The pass stands here,
-// since a function of its own would hand ten kilobytes back and forth.
-fn judge_entries(walked: Walked, s: State) -> Result<Judged, Reason>
-    requires { walked.count ≤ most_entries }
-    ensures { result ≡ judged_of (readable walked.ring (take walked.count walked.entries)) s }
-{
-    let Walked {
-        ring,
-        count,
-        entries,
-    } = walked;
-    let writes = s.writes;
-    if s.count != count {
+    let entries = walked.entries();
+    if s.count != entries.len() {
         return Err(Reason::StateUnfit);
     }
-    let mut held = none_held();
-    let mut matched = true;
-    let mut flying = false;
-    for i in 0..count {
-        let entry = entries[i];
-        let one = writes[i];
-        matched = matches_on(matched, one, entry.number, s.next);
-        flying = flies_on(flying, one.phase);
-        held[i] = Held {
-            entry,
-            phase: one.phase,
-        };
+    let writes = &s.writes[..s.count];
+    if !list_fits(entries, writes, s.next) {
+        return Err(Reason::StateUnfit);
     }
-    let head = held[0];
-    let seen = Seen {
-        matched,
-        flying,
-        head,
+    let judged = Judged {
+        ring: walked.ring,
+        count: entries.len(),
+        held: hold(entries, writes),
     };
-    if !state_fits(held, count, seen, s) {
+    if !next_fits(s.next, s.flush) {
         return Err(Reason::StateUnfit);
     }
-    Ok(Judged { ring, count, held })
+    if !pins_fit(&s.pins, s.next) {
+        return Err(Reason::StateUnfit);
+    }
+    if !held_fits(judged.held(), s) {
+        return Err(Reason::StateUnfit);
+    }
+    Ok(judged)
 }
 
 // 8 and 12, for any bytes and any state; the refusals are Unreadable and StateUnfit.
-pub fn judge(bytes: &[u8], s: State) -> Result<Judged, Reason>
-    ensures { result ≡ judged_of (reading_of bytes.now) s }
+pub fn judge(bytes: &[u8], s: &State) -> Result<Judged, Reason>
+    ensures { result ≡ judged_of (reading_of bytes.now) s.now }
 {
     let walked = walk::read(bytes)?;
-    judge_entries(walked, s)
+    judge_walked(&walked, s)
 }

@@ -41,7 +41,7 @@ abbrev pub place_of : {A : Type 0} → (A → Bool) → List A → ℕ
 place_of p [] = 0
 place_of p (x ∷ xs) = pick (p x) 0 (suc (place_of p xs))
 
--- an answer says a place within so many, or that it is none of them
+-- what a search answers: the place, where it is one of so many, and nothing where it is their count
 abbrev pub IsPlaceOf : Option ℕ → ℕ → ℕ → Type 0
 IsPlaceOf answer place n = MatchOption answer (place ≡ n) (λ i. (i ≡ place) × (i < n))
 

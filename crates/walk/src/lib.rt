@@ -57,6 +57,16 @@ pub struct Walked {
     pub entries: [Entry; Ring::ENTRIES],
 }
 
+impl Walked {
+    // The entries.
+    pub fn entries(&self) -> &[Entry]
+        requires { self.now.count ≤ most_entries }
+        ensures { result.now ≡ take self.now.count self.now.entries }
+    {
+        &self.entries[..self.count]
+    }
+}
+
 // The header, if the bytes have one and are as long as it says.
 pub fn header_of(bytes: &[u8]) -> Option<Ring>
     ensures { result ≡ header_of bytes.now }

@@ -11,8 +11,8 @@ returns-in_err-walked c =
     let p = err_from_is_err_and c.from_residual.result c.from_residual.ensures.1 in
     rw (p.1, p.2) (read_refused _ _ _ c.in_err-walked.ensures)
 
-pub judge_entries-requires : goal.judge_entries-requires
-judge_entries-requires c = (walked_few c.args.bytes.now c.in_ok-walked.walked c.in_ok-walked.ensures).0
+pub judge_walked-requires : goal.judge_walked-requires
+judge_walked-requires c = (walked_few c.args.bytes.now c.in_ok-walked.walked c.in_ok-walked.ensures).0
 
 pub returns : goal.returns
-returns c = c.judge_entries.ensures ∙ ap (λ x. judged_of x c.args.s) (sym (read_entries (reading_of c.args.bytes.now) c.in_ok-walked.walked c.in_ok-walked.ensures))
+returns c = c.judge_walked.ensures ∙ ap (λ x. judged_of x c.args.s.now) (sym (read_entries (reading_of c.args.bytes.now) c.in_ok-walked.walked c.in_ok-walked.ensures))

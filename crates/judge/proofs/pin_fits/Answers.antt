@@ -1,9 +1,7 @@
 -- `judge::pin_fits` meets its contract: no earlier record has the number exactly if none is found.
-use mathlib.Core.Path.{◌≡◌, sym, ◌∙◌, ap}
+use Rattle.std.specs.Prelude.{is_none}
 use native.Mathlib.Omega.{arith}
-use lib.Seq.{length-take-le}
-use lib.Dec.{eqb}
-use lib.ListN.{length, take}
+use mathlib.Core.Path.{◌≡◌, ◌∙◌}
 use Rattle.judge.proofs.Fitting.{pin_high, pin_free, pin_live}
 use Rattle.judge.proofs.pin_fits.Goals as goal
 
@@ -14,6 +12,4 @@ pub returns-then-pin-eq0 : goal.returns-then-pin-eq0
 returns-then-pin-eq0 c = pin_free _ _ _ c.if-next-pin.false c.if-pin-eq0.true
 
 pub returns : goal.returns
-returns c = let a = c.args in
-    let n : length (take a.i a.pins) ≡ a.i = length-take-le a.i a.pins (omega arith) in
-    ap (eqb _) (sym n) ∙ pin_live _ _ _ c.if-next-pin.false c.if-pin-eq0.false _ c.find_pin.ensures
+returns c = let o : c.is_none.result ≡ is_none c.find_pin.result = grind arith in o ∙ pin_live _ _ _ c.if-next-pin.false c.if-pin-eq0.false _ c.find_pin.ensures

@@ -1,5 +1,4 @@
--- `judge::pins_fit` meets its contract: the pins so far fit; one that doesn't, unfits them all.
-use Prim.Native.Nat.{◌-◌, ◌≤◌}
+-- `judge::pins_fit` meets its contract: the pins so far fit.
 use mathlib.Core.Path.{◌≡◌}
 use mathlib.Core.Bool.{true}
 use lib.ListN.{take}
@@ -7,7 +6,4 @@ use Rattle.judge.specs.Fits.{pins_fit}
 use Rattle.judge.proofs.pins_fit.Given as goal
 
 abbrev pub invariant-loop-i : goal.invariant-loop-i
-invariant-loop-i l = (l.i ≤ 16) × (pins_fit l.next (take l.i l.pins) ≡ true)
-
-abbrev pub decreases-loop-i : goal.decreases-loop-i
-decreases-loop-i l = 16 - l.i
+invariant-loop-i l = pins_fit l.next (take l.i l.pins) ≡ true
