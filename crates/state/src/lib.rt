@@ -270,16 +270,15 @@ pub fn list_of(held: &[Held]) -> [Listed; Ring::ENTRIES]
     writes
 }
 
-// The state that lists the held writes.
-pub fn relist(s: State, held: &[Held]) -> State
-    requires { length held.now ≤ most_entries }
-    ensures { result ≡ with_held s held.now }
-{
-    let writes = list_of(held);
-    State {
-        count: held.len(),
-        writes,
-        ..s
+impl State {
+    // Lists the held writes.
+    pub fn relist(&mut self, held: &[Held])
+        requires { length held.now ≤ most_entries }
+        ensures { self.new ≡ with_held self.old held.now }
+    {
+        let writes = list_of(held);
+        self.writes = writes;
+        self.count = held.len();
     }
 }
 
