@@ -11,11 +11,10 @@ use Rattle.layout.specs.declared.Ring.{Ring}
 use Rattle.layout.proofs.Tests.{never, sized_sound}
 use Rattle.walk.specs.declared.Entry.{Entry}
 use Rattle.walk.specs.declared.Walked.{Walked}
-use Rattle.walk.specs.declared.Opened.{Opened}
-use Rattle.walk.specs.declared.Opened.TheVariants as opened
 use Rattle.walk.specs.Walk.{Reading, readable, unreadable, reading_of, answer_of}
 use Rattle.store.specs.declared.Made.{Made}
 use Rattle.store.specs.declared.Made.TheVariants.{Ready, Refused}
+use Rattle.walk.proofs.Readings.{answer_refused}
 use Rattle.store.specs.Store.{slots_for, is_makeable, made, made_answer}
 use Rattle.ring.specs.Ring.{empty_ring}
 use Rattle.ring.proofs.Laws.{made_reads}
@@ -28,9 +27,6 @@ use Rattle.rules.specs.Outcome.{outcome_by, says, refuses, outcome}
 
 -- ---- reopen
 
-same_opened : (a b : Reason) → ◌≡◌ {A = Opened} (opened.Refused a) (opened.Refused b) → a ≡ b
-same_opened a b e = cc
-
 module _ (r : List ℕ) (s : State) where
   no_ring : reading_of r ≡ unreadable → outcome_by (refuses Unreadable) s r ≡ outcome reopen_ring r s
   unfolding outcome refusal_of both
@@ -40,20 +36,15 @@ module _ (r : List ℕ) (s : State) where
   unfolding outcome refusal_of both
   reopens g es q = rw q
 
-  refused_at : (why : Reason) (x : Reading) (w : Walked) → reading_of r ≡ x → w ≡ answer_of x → w.opened ≡ opened.Refused why
-      → outcome_by (refuses why) s r ≡ outcome reopen_ring r s
-  refused_at why unreadable w q e o =
-      let z : why ≡ Unreadable = same_opened why Unreadable (sym o ∙ ap (λ v. v.opened) e) in
-      rw z (no_ring q)
-  refused_at why (readable g es) w q e o = never (cc)
+  refused_at : (why : Reason) (x : Reading) → reading_of r ≡ x → Err why ≡ answer_of x → outcome_by (refuses why) s r ≡ outcome reopen_ring r s
+  refused_at why x q e = let k = answer_refused x why (sym e) in rw k.1 (no_ring (q ∙ k.0))
 
-  pub reopen_refused : (why : Reason) (w : Walked) → w ≡ answer_of (reading_of r) → w.opened ≡ opened.Refused why
-      → outcome_by (refuses why) s r ≡ outcome reopen_ring r s
-  reopen_refused why w e o = refused_at why (reading_of r) w refl e o
+  pub reopen_refused : (why : Reason) → Err why ≡ answer_of (reading_of r) → outcome_by (refuses why) s r ≡ outcome reopen_ring r s
+  reopen_refused why e = refused_at why (reading_of r) refl e
 
-  pub reopen_done : (w : Walked) (g : Ring) (t : State) → w ≡ answer_of (reading_of r) → w.opened ≡ opened.Readable g
-      → t ≡ reopened (take w.count w.entries) → outcome_by (says (t.next ∷ [])) t r ≡ outcome reopen_ring r s
-  reopen_done w g t e o et = rw et (reopens g (take w.count w.entries) (read_entries (reading_of r) w g e o))
+  pub reopen_done : (w : Walked) (t : State) → Ok w ≡ answer_of (reading_of r) → t ≡ reopened (take w.count w.entries)
+      → outcome_by (says (t.next ∷ [])) t r ≡ outcome reopen_ring r s
+  reopen_done w t e et = rw et (reopens w.ring (take w.count w.entries) (read_entries (reading_of r) w e))
 
 -- ---- make
 

@@ -1,5 +1,5 @@
 -- What each return of the plain calls comes to, by the table's order and the outcome.
-use Prim.Native.Nat.{ℕ, ◌+◌}
+use Prim.Native.Nat.{ℕ, ◌+◌, ◌<◌}
 use mathlib.Core.Path.{◌≡◌, refl, sym, ◌∙◌}
 use mathlib.Core.Bool.{Bool}
 use mathlib.Core.List.{List, [], ◌∷◌}
@@ -14,7 +14,8 @@ use Rattle.state.specs.declared.Held.{Held}
 use Rattle.state.specs.Lists.{most_pins, with_next, with_pins}
 use Rattle.state.specs.Pins.{mark_of, pin_place}
 use Rattle.state.specs.Asks.{cached_end, turn_of, ticket_done}
-use Rattle.state.proofs.PinTable.{place_is, place_none, place_some}
+use Rattle.state.proofs.PinTable.{place_none, place_some}
+use Rattle.judge.specs.declared.Judged.{Judged}
 use Rattle.rules.specs.Call.{pin, ask_end, take_ticket, ask_ticket, ask_turn}
 use Rattle.rules.specs.Outcome.{outcome_by, says, refuses, bit, outcome}
 use Rattle.rules.specs.Known.{Known}
@@ -36,48 +37,47 @@ judges_end node = record { reads = refl; fits = refl }
 pub judges_pin : (node : ℕ) → Judges (pin node)
 judges_pin node = record { reads = refl; fits = refl }
 
-module _ (r : List ℕ) (s : State) (g : Ring) (count : ℕ) (held : List Held) (k : Known r s g count held) where
+module _ (r : List ℕ) (s : State) (j : Judged) (k : Known r s j) where
   -- ---- take a ticket
 
   pub ticket_none : s.next ≡ number_limit → outcome_by (refuses NoNumber) s r ≡ outcome take_ticket r s
-  ticket_none e = sym (judge_passes take_ticket judges_ticket r s g count held k ∙ rw (own_ticket r (readable g k.entries) s, eq-eqb s.next number_limit e))
+  ticket_none e = sym (judge_passes take_ticket judges_ticket r s j k ∙ rw (own_ticket r (readable j.ring k.entries) s, eq-eqb s.next number_limit e))
 
   pub ticket_done_law : (s.next ≡ number_limit → ⊥) → outcome_by (says (s.next ∷ [])) (with_next s (s.next + 1)) r ≡ outcome take_ticket r s
-  ticket_done_law e = sym (judge_passes take_ticket judges_ticket r s g count held k ∙ rw (own_ticket r (readable g k.entries) s, ne_eqb s.next number_limit e))
+  ticket_done_law e = sym (judge_passes take_ticket judges_ticket r s j k ∙ rw (own_ticket r (readable j.ring k.entries) s, ne_eqb s.next number_limit e))
 
   -- ---- ask a ticket
 
-  pub ask_done : (ticket node : ℕ) (b : Bool) → b ≡ ticket_done ticket node (take count held)
+  pub ask_done : (ticket node : ℕ) (b : Bool) → b ≡ ticket_done ticket node (take j.count j.held)
       → outcome_by (says (bit b ∷ [])) s r ≡ outcome (ask_ticket ticket node) r s
-  ask_done ticket node b e = sym (judge_passes (ask_ticket ticket node) (judges_ask ticket node) r s g count held k ∙ rw (own_ask r (readable g k.entries) s ticket node, ← e))
+  ask_done ticket node b e = sym (judge_passes (ask_ticket ticket node) (judges_ask ticket node) r s j k ∙ rw (own_ask r (readable j.ring k.entries) s ticket node, ← e))
 
   -- ---- whose turn
 
-  pub turn_done : (n : ℕ) → n ≡ turn_of (take count held) → outcome_by (says (n ∷ [])) s r ≡ outcome ask_turn r s
-  turn_done n e = sym (judge_passes ask_turn judges_turn r s g count held k ∙ rw (own_turn r (readable g k.entries) s, ← e))
+  pub turn_done : (n : ℕ) → n ≡ turn_of (take j.count j.held) → outcome_by (says (n ∷ [])) s r ≡ outcome ask_turn r s
+  turn_done n e = sym (judge_passes ask_turn judges_turn r s j k ∙ rw (own_turn r (readable j.ring k.entries) s, ← e))
 
   -- ---- cached end
 
   pub end_zero : (node : ℕ) → node ≡ 0 → outcome_by (refuses NodeZero) s r ≡ outcome (ask_end node) r s
-  end_zero node e = sym (judge_passes (ask_end node) (judges_end node) r s g count held k ∙ rw (own_end r (readable g k.entries) s node, eq-eqb node 0 e))
+  end_zero node e = sym (judge_passes (ask_end node) (judges_end node) r s j k ∙ rw (own_end r (readable j.ring k.entries) s node, eq-eqb node 0 e))
 
-  pub end_done : (node n : ℕ) → (node ≡ 0 → ⊥) → n ≡ cached_end node (take count held) → outcome_by (says (n ∷ [])) s r ≡ outcome (ask_end node) r s
-  end_done node n z e = sym (judge_passes (ask_end node) (judges_end node) r s g count held k ∙ rw (own_end r (readable g k.entries) s node, ne_eqb node 0 z, ← e))
+  pub end_done : (node n : ℕ) → (node ≡ 0 → ⊥) → n ≡ cached_end node (take j.count j.held) → outcome_by (says (n ∷ [])) s r ≡ outcome (ask_end node) r s
+  end_done node n z e = sym (judge_passes (ask_end node) (judges_end node) r s j k ∙ rw (own_end r (readable j.ring k.entries) s node, ne_eqb node 0 z, ← e))
 
   -- ---- pin
 
-  module _ (node place : ℕ) (l : length s.pins ≡ most_pins) (e : place ≡ pin_place 0 (take most_pins s.pins)) where
-    pub pin_full : place ≡ most_pins → outcome_by (refuses TooManyPins) s r ≡ outcome (pin node) r s
-    pin_full z = sym (judge_passes (pin node) (judges_pin node) r s g count held k ∙ rw (own_pin r (readable g k.entries) s node, place_none s.pins 0 place l e z))
+  pub pin_full : (node : ℕ) → pin_place 0 s.pins ≡ length s.pins → outcome_by (refuses TooManyPins) s r ≡ outcome (pin node) r s
+  pin_full node z = sym (judge_passes (pin node) (judges_pin node) r s j k ∙ rw (own_pin r (readable j.ring k.entries) s node, place_none s.pins 0 z))
 
-    module _ (z : place ≡ most_pins → ⊥) where
-      pub pin_number : s.next ≡ number_limit → outcome_by (refuses NoNumber) s r ≡ outcome (pin node) r s
-      pin_number n =
-          sym (judge_passes (pin node) (judges_pin node) r s g count held k ∙ rw (own_pin r (readable g k.entries) s node, place_some s.pins 0 place l e z, eq-eqb s.next number_limit n))
+  module _ (node place : ℕ) (e : (place ≡ pin_place 0 s.pins) × (place < length s.pins)) where
+    pub pin_number : s.next ≡ number_limit → outcome_by (refuses NoNumber) s r ≡ outcome (pin node) r s
+    pin_number n =
+        sym (judge_passes (pin node) (judges_pin node) r s j k ∙ rw (own_pin r (readable j.ring k.entries) s node, place_some s.pins 0 place e.0 e.1, eq-eqb s.next number_limit n))
 
-      pub pin_done_law : (s.next ≡ number_limit → ⊥) → (mark : ℕ) → mark ≡ mark_of node s.next (take count held)
-          → outcome_by (says (s.next ∷ [])) (with_next (with_pins s (set s.pins place (record { number = s.next; mark = mark; node = node }))) (s.next + 1)) r
-          ≡ outcome (pin node) r s
-      pin_done_law n mark m =
-          sym (judge_passes (pin node) (judges_pin node) r s g count held k
-          ∙ rw (own_pin r (readable g k.entries) s node, place_some s.pins 0 place l e z, ne_eqb s.next number_limit n, ← m, ← place_is s.pins 0 place l e))
+    pub pin_done_law : (s.next ≡ number_limit → ⊥) → (mark : ℕ) → mark ≡ mark_of node s.next (take j.count j.held)
+        → outcome_by (says (s.next ∷ [])) (with_next (with_pins s (set s.pins place (record { number = s.next; mark = mark; node = node }))) (s.next + 1)) r
+        ≡ outcome (pin node) r s
+    pin_done_law n mark m =
+        sym (judge_passes (pin node) (judges_pin node) r s j k
+        ∙ rw (own_pin r (readable j.ring k.entries) s node, place_some s.pins 0 place e.0 e.1, ne_eqb s.next number_limit n, ← m, ← e.0))

@@ -1,25 +1,19 @@
 -- What an answer that leaves the state alone says on paper: the refusal's number, or the values. Document 01, "When the box says no".
-use Rattle.std.specs.Prelude.{[], ◌∷◌}
-use Rattle.rules.specs.Outcome.{Said, says, refuses}
-use Rattle.calls.specs.declared.Ended.{Ended}
-use Rattle.calls.specs.declared.Ended.TheVariants as ended
-use Rattle.calls.specs.declared.Asked.{Asked}
-use Rattle.calls.specs.declared.Asked.TheVariants as asked
-use Rattle.calls.specs.declared.Turn.{Turn}
-use Rattle.calls.specs.declared.Turn.TheVariants as turn
+use Rattle.std.specs.Prelude.{ℕ, Bool, [], ◌∷◌, Result, Ok, Err}
+use Rattle.reason.specs.declared.Reason.{Reason}
+use Rattle.rules.specs.Outcome.{Said, says, refuses, bit}
 
 -- cached end
-abbrev pub said_end : Ended → Said
-said_end (ended.End e) = says (e ∷ [])
-said_end (ended.Refused why) = refuses why
+abbrev pub said_end : Result ℕ Reason → Said
+said_end (Ok e) = says (e ∷ [])
+said_end (Err why) = refuses why
 
 -- ask a ticket: 1 for done, 0 for not yet
-abbrev pub said_ticket : Asked → Said
-said_ticket asked.Done = says (1 ∷ [])
-said_ticket asked.NotYet = says (0 ∷ [])
-said_ticket (asked.Refused why) = refuses why
+abbrev pub said_ticket : Result Bool Reason → Said
+said_ticket (Ok done) = says (bit done ∷ [])
+said_ticket (Err why) = refuses why
 
 -- whose turn: a node, or 0
-abbrev pub said_turn : Turn → Said
-said_turn (turn.Node n) = says (n ∷ [])
-said_turn (turn.Refused why) = refuses why
+abbrev pub said_turn : Result ℕ Reason → Said
+said_turn (Ok n) = says (n ∷ [])
+said_turn (Err why) = refuses why
