@@ -50,8 +50,16 @@ put_place (b ∷ bs) r n p q e =
     (put_place bs (set r (header_size + (q % span_of n)) b) n (suc p) (suc q)
     (suc-mod p (span_of n) ∙ ap (λ (k : ℕ). suc k % span_of n) e ∙ sym (suc-mod q (span_of n))))
 
--- a run that doesn't cross the end is one write of the buffer
-run_sets : (bs r : List ℕ) (n p i : ℕ) → (p % span_of n) + i + length bs ≤ span_of n → put r n (p + i) bs ≡ sets r (header_size + (p % span_of n) + i) bs
+-- a write to a part of a buffer is a write to each of its places
+pub mid_sets : (bs r : List ℕ) (a k : ℕ) → k ≡ length bs → a + k ≤ length r → put_mid a k r bs ≡ sets r a bs
+mid_sets bs r a k l h =
+    put_mid-paste a k r bs bs k refl refl l
+    ∙ ap (λ x. take a r ++ x ++ drop (a + k) r) (take_all k bs (omega arith))
+    ∙ ap (λ x. take a r ++ bs ++ drop (a + x) r) l
+    ∙ sym (sets-eq bs r a (omega arith))
+
+-- a run that doesn't cross the end is one such write
+pub run_sets : (bs r : List ℕ) (n p i : ℕ) → (p % span_of n) + i + length bs ≤ span_of n → put r n (p + i) bs ≡ sets r (header_size + (p % span_of n) + i) bs
 unfolding put
 run_sets [] r n p i h = refl
 run_sets (b ∷ bs) r n p i h =
@@ -64,10 +72,7 @@ run_sets (b ∷ bs) r n p i h =
 pub put_run : (bs r : List ℕ) (n p a k : ℕ) → Sized r n → a ≡ header_size + (p % span_of n) → k ≡ length bs → (p % span_of n) + k ≤ span_of n → put_mid a k r bs ≡ put r n p bs
 put_run bs r n p a k z e l h =
     let s : put r n p bs ≡ sets r (header_size + (p % span_of n)) bs = simp add-zero at (run_sets bs r n p 0 (omega arith)) in
-    put_mid-paste a k r bs bs k refl refl l
-    ∙ ap (λ x. take a r ++ x ++ drop (a + k) r) (take_all k bs (omega arith))
-    ∙ ap (λ x. take a r ++ bs ++ drop (a + x) r) l
-    ∙ sym (sets-eq bs r a (omega (arith, z.len))) ∙ ap (λ x. sets r x bs) e ∙ sym s
+    mid_sets bs r a k l (omega (arith, z.len)) ∙ ap (λ x. sets r x bs) e ∙ sym s
 
 -- ---- what is read after a store
 
