@@ -6,7 +6,7 @@ use Rattle.layout.specs.Sizes.{edition, header_size, slot_size, slots_of}
 use Rattle.layout.specs.Bytes.{is_ring_length, put}
 use Rattle.walk.specs.declared.Entry.{Entry}
 -- an entry's bytes stand in image's specs
-pub use Rattle.image.specs.Image.{name_bytes, range_bytes, head_bytes, entry_bytes}
+unfoldable pub use Rattle.image.specs.Image.{name_bytes, range_bytes, head_bytes, entry_bytes}
 
 -- ---- making an empty ring
 
