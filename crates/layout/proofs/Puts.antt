@@ -32,15 +32,6 @@ put_append (x ∷ xs) ys r n p =
     put_append xs ys (set r (header_size + (p % span_of n)) x) n (suc p)
     ∙ (let e : suc p + length xs ≡ p + suc (length xs) = omega arith in rw e)
 
--- and what two moves stored, one behind the other, is one run
-pub put_join : (xs ys : List ℕ) {r₁ r₂ : List ℕ} (r : List ℕ) (n p : ℕ) → r₁ ≡ put r n p xs → r₂ ≡ put r₁ n (p + length xs) ys → r₂ ≡ put r n p (xs ++ ys)
-put_join xs ys r n p e₁ e₂ = e₂ ∙ rw e₁ (sym (put_append xs ys r n p))
-
--- and so of three
-pub put_join3 : (xs ys zs : List ℕ) {r₁ r₂ r₃ : List ℕ} (r : List ℕ) (n p q : ℕ) → p + length xs + length ys ≡ q
-    → r₁ ≡ put r n p xs → r₂ ≡ put r₁ n (p + length xs) ys → r₃ ≡ put r₂ n q zs → r₃ ≡ put r n p (xs ++ (ys ++ zs))
-put_join3 xs ys zs {r₁} {r₂} {r₃} r n p q h e₁ e₂ e₃ = put_join xs (ys ++ zs) r n p e₁ (put_join ys zs r₁ n (p + length xs) e₂ (rw h e₃))
-
 -- places that are the same byte
 pub put_place : (bs r : List ℕ) (n p q : ℕ) → p % span_of n ≡ q % span_of n → put r n p bs ≡ put r n q bs
 unfolding put

@@ -91,6 +91,13 @@ module _ (bs r : List ℕ) (n p start left : ℕ) (z : Sized r n) (fits : length
       ∙ sym (put_append (take left bs) (drop left bs) r n p) ∙ ap (put r n p) (take-append-drop left bs)
 
 -- and so of zeros
+
+front_zeros : (m c d : ℕ) (ys : List ℕ) → ys ≡ replicate m 0 → m ≡ d → d ≤ c → ys ≡ take d (replicate c 0)
+front_zeros m c d ys e q h = e ∙ ap (λ x. replicate x 0) q ∙ sym (take-replicate d c 0 h)
+
+rest_zeros : (m c d : ℕ) (zs : List ℕ) → zs ≡ replicate m 0 → m ≡ c - d → zs ≡ drop d (replicate c 0)
+rest_zeros m c d zs e q = e ∙ ap (λ x. replicate x 0) q ∙ sym (drop-replicate d c 0)
+
 pub zeros_two : (r : List ℕ) (n p c start left : ℕ) → Sized r n → c ≤ span_of n → start ≡ header_size + (p % span_of n) → left ≡ min c (span_of n - (p % span_of n))
     → (j k : ℕ) (ys zs : List ℕ) → j ≡ left → k ≡ c - left → ys ≡ replicate (length (take j (drop start r))) 0
     → zs ≡ replicate (length (take k (drop header_size (put_mid start j r ys)))) 0 → put_mid header_size k (put_mid start j r ys) zs ≡ put r n p (replicate c 0)
@@ -101,11 +108,11 @@ zeros_two r n p c start left z fits b q j k ys zs ej ek ey ez =
     let m = mod-lt p (let w : 0 < span_of n = omega (arith, z.low) in w) in
     let d = length-drop start r in
     let one : length (take j (drop start r)) ≡ left = omega (arith, ej, length-take-le j (drop start r) (omega (arith, z.len))) in
-    let y : ys ≡ take left bs = ey ∙ ap (λ x. replicate x 0) one ∙ sym (take-replicate left c 0 (omega arith)) in
+    let y : ys ≡ take left bs = front_zeros _ c left ys ey one (omega arith) in
     let first : whole ≡ put r n p (take left bs) = first_put bs r n p start left z (omega arith) b (omega arith) j ys ej y in
     let long : length whole ≡ length r = omega (arith, ap length first, length_put (take left bs) r n p) in
     let e = length-drop header_size whole in
     let rest = drop header_size whole in
     let two : length (take k rest) ≡ c - left = omega (arith, ek, length-take-le k rest (omega (arith, z.len))) in
-    let w : zs ≡ drop left bs = ez ∙ ap (λ x. replicate x 0) two ∙ sym (drop-replicate left c 0) in
+    let w : zs ≡ drop left bs = rest_zeros _ c left zs ez two in
     put_two bs r n p start left z (omega arith) b (omega arith) j k ys zs ej (omega arith) y w
