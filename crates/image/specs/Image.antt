@@ -4,8 +4,6 @@ use Rattle.layout.specs.Sizes.{slot_size, filler_of}
 use Rattle.layout.specs.Bytes.{bytes2, bytes4, bytes8}
 use Rattle.walk.specs.declared.Entry.{Entry}
 
--- The first four stand in store's specs too, for its `stored`, which was there first; they can't be cited here, since this crate stands below store.
-
 -- the table of an entry's head: bytes 0 to 15, and 16 to 23
 unfoldable pub name_bytes : Entry → List ℕ
 name_bytes e = bytes8 e.number ++ (bytes4 e.node ++ bytes4 e.handle)

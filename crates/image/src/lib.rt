@@ -2,78 +2,25 @@
 // Document 01, "The ring in battery memory", second table. Nothing here is lent a ring.
 #![tactic(auto)]
 
-ghost use Rattle.std.specs.Prelude.{◌≡◌, ◌++◌, ◌≤◌, ◌<◌, length, drop, replicate};
-ghost use Rattle.layout.specs.Sizes.{slot_size, largest, slots_of};
+ghost use Rattle.std.specs.Prelude.{◌≡◌, ◌≤◌, ◌<◌, length};
+ghost use Rattle.layout.specs.Sizes.{largest, slots_of};
 ghost use Rattle.image.specs.Image.{head_bytes, slot_bytes};
 
 use layout::Ring;
 use walk::Entry;
 
-// Stores src at the front of the bytes.
-pub fn put_front(bytes: &mut [u8], src: &[u8])
-    requires { length src.now ≤ length bytes.old }
-    ensures { bytes.new ≡ src.now ++ drop (length src.now) bytes.old }
-{
-    let mut i = 0;
-    while i < src.len() {
-        bytes[i] = src[i];
-        i += 1;
-    }
-}
-
 // The bytes of an entry's head.
-fn head_bytes(entry: Entry) -> [u8; Ring::HEAD]
+pub fn head_bytes(entry: Entry) -> [u8; Ring::HEAD]
     ensures { result ≡ head_bytes entry }
 {
-    let low = entry.number;
-    let high = low / 4294967296;
-    let node = entry.node;
-    let handle = entry.handle;
-    let offset = entry.offset;
-    let length = entry.length;
-    let zero = entry.zero;
-    [
-        (low % 256) as u8,
-        (low / 256 % 256) as u8,
-        (low / 65536 % 256) as u8,
-        (low / 65536 / 256 % 256) as u8,
-        (high % 256) as u8,
-        (high / 256 % 256) as u8,
-        (high / 65536 % 256) as u8,
-        (high / 65536 / 256 % 256) as u8,
-        (node % 256) as u8,
-        (node / 256 % 256) as u8,
-        (node / 65536 % 256) as u8,
-        (node / 65536 / 256 % 256) as u8,
-        (handle % 256) as u8,
-        (handle / 256 % 256) as u8,
-        (handle / 65536 % 256) as u8,
-        (handle / 65536 / 256 % 256) as u8,
-        (offset % 256) as u8,
-        (offset / 256 % 256) as u8,
-        (offset / 65536 % 256) as u8,
-        (offset / 65536 / 256 % 256) as u8,
-        (length % 256) as u8,
-        (length / 256 % 256) as u8,
-        (zero % 256) as u8,
-        (zero / 256 % 256) as u8,
-    ]
-}
-
-// The lesser of two counts.
-fn lesser(a: usize, b: usize) -> usize
-    ensures { (result ≤ a) × (result ≤ b) × (a ≤ b → result ≡ a) × (b ≤ a → result ≡ b) }
-{
-    if a < b {
-        return a;
-    }
-    b
-}
-
-fn blank() -> [u8; Ring::SLOT]
-    ensures { result ≡ replicate slot_size 0 }
-{
-    [0u8; Ring::SLOT]
+    let mut head = [0; Ring::HEAD];
+    head[0..8].copy_from_slice(&entry.number.to_le_bytes());
+    head[8..12].copy_from_slice(&entry.node.to_le_bytes());
+    head[12..16].copy_from_slice(&entry.handle.to_le_bytes());
+    head[16..20].copy_from_slice(&entry.offset.to_le_bytes());
+    head[20..22].copy_from_slice(&entry.length.to_le_bytes()[0..2]);
+    head[22..24].copy_from_slice(&entry.zero.to_le_bytes()[0..2]);
+    head
 }
 
 // An entry's first slot: its head and the first of its bytes.
@@ -81,11 +28,10 @@ pub fn first_image(entry: Entry, src: &[u8]) -> [u8; Ring::SLOT]
     requires { entry.length ≡ length src.now }
     ensures { result ≡ slot_bytes entry src.now 0 }
 {
-    let head = head_bytes(entry);
-    let mut image = blank();
-    let count = lesser(src.len(), Ring::SLOT - Ring::HEAD);
-    put_front(&mut image, &head);
-    put_front(&mut image[Ring::HEAD..Ring::SLOT], &src[0..count]);
+    let mut image = [0; Ring::SLOT];
+    let count = src.len().min(Ring::SLOT - Ring::HEAD);
+    image[..Ring::HEAD].copy_from_slice(&head_bytes(entry));
+    image[Ring::HEAD..Ring::HEAD + count].copy_from_slice(&src[..count]);
     image
 }
 
@@ -95,8 +41,8 @@ pub fn later_image(entry: Entry, src: &[u8], i: usize) -> [u8; Ring::SLOT]
     ensures { result ≡ slot_bytes entry src.now i }
 {
     let from = i * Ring::SLOT - Ring::HEAD;
-    let count = lesser(src.len() - from, Ring::SLOT);
-    let mut image = blank();
-    put_front(&mut image, &src[from..from + count]);
-    image
+    let count = (src.len() - from).min(Ring::SLOT);
+    let mut slot = [0; Ring::SLOT];
+    slot[..count].copy_from_slice(&src[from..from + count]);
+    slot
 }

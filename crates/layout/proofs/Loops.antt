@@ -1,18 +1,17 @@
 -- The loops of this crate, each as a named invariant with what begins it, carries it on and ends it.
-use Prim.Native.Nat.{ℕ, suc, ◌+◌, ◌-◌, ◌%◌, ◌≤◌, ◌<◌}
+use Prim.Native.Nat.{ℕ, suc, ◌+◌, ◌-◌, ◌≤◌, ◌<◌}
 use mathlib.Core.Path.{◌≡◌, refl, sym, ap, ◌∙◌}
 use mathlib.Core.List.{List, [], ◌∷◌, ◌++◌, append_assoc, append-nil}
 use mathlib.Core.Bool.{Bool, true, false}
 use native.Mathlib.Omega.{arith}
-use native.Mathlib.Nat.{add-zero, add-suc, sub-zero}
+use native.Mathlib.Nat.{add-zero, sub-zero}
 use native.Mathlib.Numerals.{add-one}
 use lib.ListN.{length, get_or, set, drop, length-set, drop_of_length-le}
 use lib.Seq.{drop-cons, set_at}
 use lib.Dec.{eqb}
 use borrow.Author.Tests.{eq-eqb, ne_eqb}
-use Rattle.layout.specs.Sizes.{header_size, span_of}
-use Rattle.layout.specs.Bytes.{both, zeros_at, bytes_at, put}
-use Rattle.layout.proofs.Views.{bytes_length, bytes_snoc, run_place}
+use Rattle.layout.specs.Bytes.{both, zeros_at, bytes_at}
+use Rattle.layout.proofs.Views.{bytes_length, bytes_snoc}
 
 -- ---- a test of zeros: what was found of the bytes passed, and what is left
 
@@ -45,33 +44,6 @@ module _ (f : ℕ → ℕ) (p c : ℕ) where
         neither : (b : Bool) → both b false ≡ false
         neither true = refl
         neither false = refl
-
--- ---- storing: what is stored so far, and what is still to be stored
-
-pub record Putting (r₀ : List ℕ) (n p : ℕ) (bs : List ℕ) (r : List ℕ) (i : ℕ) : Type 0 where
-  pub upto : i ≤ length bs
-  pub same : length r ≡ length r₀
-  pub rest : put r₀ n p bs ≡ put r n (p + i) (drop i bs)
-
-module _ (r₀ : List ℕ) (n p : ℕ) (bs : List ℕ) where
-  pub put_start : Putting r₀ n p bs r₀ 0
-  put_start = record { upto = omega arith; same = refl; rest = rw add-zero }
-
-  module _ (r : List ℕ) (i : ℕ) (o : Putting r₀ n p bs r i) where
-    pub put_next : (q b : ℕ) → q ≡ header_size + (p % span_of n) + i → (p % span_of n) + i < span_of n → i < length bs → b ≡ get_or bs i 0 → Putting r₀ n p bs (set r q b) (i + 1)
-    unfolding put
-    put_next q b d h l e =
-        let m = run_place p (span_of n) i h in
-        let w : q ≡ header_size + ((p + i) % span_of n) = omega arith in
-        record {
-          upto = omega arith;
-          same = length-set r q b ∙ o.same;
-          rest = o.rest ∙ rw (w, drop-cons bs i 0, ← e) (rw (add-one i, add-suc p i));
-        }
-
-    pub put_done : length bs ≤ i → r ≡ put r₀ n p bs
-    unfolding put
-    put_done l = sym (o.rest ∙ rw (drop_of_length-le bs l))
 
 -- ---- taking: the front is copied, the rest is as it was
 

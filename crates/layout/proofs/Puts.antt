@@ -5,12 +5,15 @@ use mathlib.Core.Logic.{⊎_elim, ◌≢◌}
 use mathlib.Core.List.{List, [], ◌∷◌, ◌++◌}
 use native.Mathlib.Omega.{arith}
 use native.Mathlib.Nat.{add-zero, suc-mod, div-add-mod', mul-le-mul_right, suc-mul}
-use lib.ListN.{length, get_or, set, length-set}
-use lib.Seq.{get_or-set_same, get_or-set_other}
+use lib.ListN.{length, get_or, set, take, drop, length-set}
+use lib.Seq.{get_or-set_same, get_or-set_other, sets, take_all}
+use borrow.Rule.Slice.PartMut.{put_mid}
+use Rattle.std.proofs.lemmas.Slice.{put_mid-paste}
+use Rattle.std.proofs.lemmas.List.Edits.{sets-eq}
 use Rattle.layout.specs.Sizes.{header_size, span_of}
 use Rattle.layout.specs.Bytes.{Sized, flat, round, put, Same}
 use Rattle.layout.proofs.Tests.{lt_or_le}
-use Rattle.layout.proofs.Views.{in_ring}
+use Rattle.layout.proofs.Views.{in_ring, run_place}
 
 pub length_put : (bs r : List ℕ) (n p : ℕ) → length (put r n p bs) ≡ length r
 unfolding put
@@ -29,15 +32,6 @@ put_append (x ∷ xs) ys r n p =
     put_append xs ys (set r (header_size + (p % span_of n)) x) n (suc p)
     ∙ (let e : suc p + length xs ≡ p + suc (length xs) = omega arith in rw e)
 
--- and what two moves stored, one behind the other, is one run
-pub put_join : (xs ys : List ℕ) {r₁ r₂ : List ℕ} (r : List ℕ) (n p : ℕ) → r₁ ≡ put r n p xs → r₂ ≡ put r₁ n (p + length xs) ys → r₂ ≡ put r n p (xs ++ ys)
-put_join xs ys r n p e₁ e₂ = e₂ ∙ rw e₁ (sym (put_append xs ys r n p))
-
--- and so of three
-pub put_join3 : (xs ys zs : List ℕ) {r₁ r₂ r₃ : List ℕ} (r : List ℕ) (n p q : ℕ) → p + length xs + length ys ≡ q
-    → r₁ ≡ put r n p xs → r₂ ≡ put r₁ n (p + length xs) ys → r₃ ≡ put r₂ n q zs → r₃ ≡ put r n p (xs ++ (ys ++ zs))
-put_join3 xs ys zs {r₁} {r₂} {r₃} r n p q h e₁ e₂ e₃ = put_join xs (ys ++ zs) r n p e₁ (put_join ys zs r₁ n (p + length xs) e₂ (rw h e₃))
-
 -- places that are the same byte
 pub put_place : (bs r : List ℕ) (n p q : ℕ) → p % span_of n ≡ q % span_of n → put r n p bs ≡ put r n q bs
 unfolding put
@@ -46,6 +40,30 @@ put_place (b ∷ bs) r n p q e =
     rw e
     (put_place bs (set r (header_size + (q % span_of n)) b) n (suc p) (suc q)
     (suc-mod p (span_of n) ∙ ap (λ (k : ℕ). suc k % span_of n) e ∙ sym (suc-mod q (span_of n))))
+
+-- a write to a part of a buffer is a write to each of its places
+pub mid_sets : (bs r : List ℕ) (a k : ℕ) → k ≡ length bs → a + k ≤ length r → put_mid a k r bs ≡ sets r a bs
+mid_sets bs r a k l h =
+    put_mid-paste a k r bs bs k refl refl l
+    ∙ ap (λ x. take a r ++ x ++ drop (a + k) r) (take_all k bs (omega arith))
+    ∙ ap (λ x. take a r ++ bs ++ drop (a + x) r) l
+    ∙ sym (sets-eq bs r a (omega arith))
+
+-- a run that doesn't cross the end is one such write
+pub run_sets : (bs r : List ℕ) (n p i : ℕ) → (p % span_of n) + i + length bs ≤ span_of n → put r n (p + i) bs ≡ sets r (header_size + (p % span_of n) + i) bs
+unfolding put
+run_sets [] r n p i h = refl
+run_sets (b ∷ bs) r n p i h =
+    let m = run_place p (span_of n) i (omega arith) in
+    let e : header_size + ((p + i) % span_of n) ≡ header_size + (p % span_of n) + i = omega arith in
+    let q : suc (p + i) ≡ p + suc i = omega arith in
+    let w : suc (header_size + (p % span_of n) + i) ≡ header_size + (p % span_of n) + suc i = omega arith in
+    rw (e, q, w) (run_sets bs (set r (header_size + (p % span_of n) + i) b) n p (suc i) (omega arith))
+
+pub put_run : (bs r : List ℕ) (n p a k : ℕ) → Sized r n → a ≡ header_size + (p % span_of n) → k ≡ length bs → (p % span_of n) + k ≤ span_of n → put_mid a k r bs ≡ put r n p bs
+put_run bs r n p a k z e l h =
+    let s : put r n p bs ≡ sets r (header_size + (p % span_of n)) bs = simp add-zero at (run_sets bs r n p 0 (omega arith)) in
+    mid_sets bs r a k l (omega (arith, z.len)) ∙ ap (λ x. sets r x bs) e ∙ sym s
 
 -- ---- what is read after a store
 

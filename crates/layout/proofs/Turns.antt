@@ -1,64 +1,118 @@
 -- Copies round the ring's end in two moves: up to the end, and then the rest.
-use Prim.Native.Nat.{ℕ, ◌+◌, ◌-◌, ◌%◌, ◌≤◌, ◌<◌}
+use Prim.Native.Nat.{ℕ, ◌+◌, ◌-◌, ◌%◌, ◌≤◌, ◌<◌, min}
 use mathlib.Core.Path.{◌≡◌, sym, ap, ◌∙◌}
+use mathlib.Core.Logic.{⊎_elim}
 use mathlib.Core.List.{List, [], ◌++◌, append-nil}
 use native.Mathlib.Omega.{arith}
-use native.Mathlib.Nat.{mod-lt, mod-add-mod, mod_self, sub-zero}
-use borrow.Rule.Slice.PartMut.{mid_of, post_of, put_mid, mid_len}
-use lib.ListN.{length, take, drop, replicate, length-append, length-drop, length-replicate, drop_of_length-le, take-append-drop, replicate-append-replicate}
-use lib.Seq.{take_all, length-take-le, take_at}
-use Rattle.layout.specs.Bytes.{bytes_at, put}
-use Rattle.layout.proofs.Views.{bytes_length, bytes_append}
-use Rattle.layout.proofs.Puts.{put_join}
+use native.Mathlib.Nat.{mod-lt, mod-add-mod, mod_self}
+use Rattle.std.proofs.lemmas.List.{take-replicate, drop-replicate}
+use borrow.Rule.Slice.PartMut.{put_mid}
+use lib.ListN.{length, take, drop, replicate, length-drop, length-replicate, drop_of_length-le, take-append-drop}
+use lib.Seq.{length-take-le, take_at}
+use Rattle.layout.specs.Sizes.{header_size, span_of}
+use Rattle.layout.specs.Bytes.{Sized, round, bytes_at, put}
+use Rattle.layout.proofs.Tests.{lt_or_le}
+use Rattle.layout.proofs.Views.{bytes_length, bytes_append, round_bytes}
+use Rattle.layout.proofs.Puts.{put_append, put_run, length_put, sized_as}
 
--- ---- neither move goes round the end
+-- ---- behind the part up to the end stands the ring's start
 
-module _ (p m q : ℕ) (e : q ≡ p % m) (some : 0 < m) where
-  pub under : q ≤ m
-  under = let h = mod-lt p some in omega arith
+turned : (p m : ℕ) → 0 < m → (p + (m - (p % m))) % m ≡ 0
+turned p m some =
+    let l = mod-lt p some in
+    let w : (p % m) + (m - (p % m)) ≡ m = omega arith in
+    sym (mod-add-mod p m (m - (p % m))) ∙ ap (λ x. x % m) w ∙ mod_self m
 
-  pub first_fits : (k : ℕ) → k ≤ m - q → (p % m) + k ≤ m
-  first_fits k h = let l = mod-lt p some in omega arith
+-- ---- taking: the two parts that were lent, filled
 
-  -- behind the part up to the end stands the ring's start
-  turned : (p + (m - q)) % m ≡ 0
-  turned =
-      let l = mod-lt p some in
-      let w : (p % m) + (m - q) ≡ m = omega arith in
-      sym (mod-add-mod p m (m - q)) ∙ ap (λ x. x % m) w ∙ mod_self m
+module _ (r : List ℕ) (n p : ℕ) (l : List ℕ) (start left : ℕ) (z : Sized r n) (fits : (p % span_of n) + length l ≤ span_of n + span_of n)
+    (b : start ≡ header_size + (p % span_of n)) (q : left ≡ min (length l) (span_of n - (p % span_of n))) where
+  first_taken : take left (drop start r) ≡ bytes_at (round r n) p left
+  first_taken =
+      let m = mod-lt p (let w : 0 < span_of n = omega (arith, z.low) in w) in
+      ap (λ s. take left (drop s r)) b ∙ round_bytes r n p left z (omega arith)
 
-  pub rest_fits : (k : ℕ) → k ≤ m → ((p + (m - q)) % m) + k ≤ m
-  rest_fits k h = let z = turned in omega arith
+  rest_taken : take (length l - left) (drop header_size r) ≡ bytes_at (round r n) (p + left) (length l - left)
+  unfolding bytes_at
+  rest_taken =
+      ⊎_elim
+      (λ h.
+      let e : left ≡ span_of n - (p % span_of n) = omega arith in
+      let t : (p + left) % span_of n ≡ 0 = ap (λ x. (p + x) % span_of n) e ∙ turned p (span_of n) (omega (arith, z.low)) in
+      let s : header_size + ((p + left) % span_of n) ≡ header_size = omega arith in
+      ap (λ x. take (length l - left) (drop x r)) (sym s) ∙ round_bytes r n (p + left) (length l - left) z (omega arith))
+      (λ h. let e : length l - left ≡ 0 = omega arith in rw e)
+      (lt_or_le (span_of n - (p % span_of n)) (length l))
 
--- ---- taking: what came back in the two parts that were lent on, said of the whole
-
-pub taken_both : (f : ℕ → ℕ) (p a : ℕ) (l ys zs : List ℕ) → a ≤ length l → ys ≡ bytes_at f p (length (mid_of 0 (a - 0) l))
-    → zs ≡ bytes_at f (p + a) (length (mid_of a (length l - a) (put_mid 0 (a - 0) l ys))) → put_mid a (length l - a) (put_mid 0 (a - 0) l ys) zs ≡ bytes_at f p (length l)
-taken_both f p a l ys zs h one two =
-    let whole : List ℕ = put_mid 0 (a - 0) l ys in
-    let y : ys ≡ bytes_at f p a = one ∙ ap (bytes_at f p) (ap (λ k. length (take k l)) (sub-zero a) ∙ length-take-le a l h) in
-    let n : length ys ≡ a = ap length y ∙ bytes_length f p a in
-    let is : whole ≡ ys ++ drop a l = ap (λ k. ys ++ drop k l) (sub-zero a) in
-    let long : length whole ≡ length l = ap length is ∙ length-append ys (drop a l) ∙ (let d = length-drop a l in omega arith) in
-    let z : zs ≡ bytes_at f (p + a) (length l - a) = two ∙ ap (bytes_at f (p + a)) (mid_len a (length l) whole (omega arith)) in
-    let front : take a whole ≡ bytes_at f p a = ap (take a) is ∙ take_at ys (drop a l) a n ∙ y in
-    let short : length (drop a whole) ≤ length l - a = let d = length-drop a whole in omega arith in
-    let back : post_of a (length l - a) whole ≡ [] = drop_of_length-le (drop a whole) short in
-    let w : a + (length l - a) ≡ length l = omega arith in
-    ap (λ x. x ++ (zs ++ post_of a (length l - a) whole)) front ∙ ap (λ x. bytes_at f p a ++ (zs ++ x)) back ∙ ap (◌++◌ (bytes_at f p a)) (append-nil zs ∙ z)
-    ∙ sym (bytes_append a (length l - a) f p) ∙ ap (bytes_at f p) w
+  pub taken_two : (j k : ℕ) (ys zs : List ℕ) → j ≡ left → k ≡ length l - left → ys ≡ take j (drop start r) → zs ≡ take k (drop header_size r)
+      → put_mid left (length (ys ++ drop left l) - left) (put_mid 0 left l ys) zs ≡ bytes_at (round r n) p (length l)
+  taken_two j k ys zs ej ek one two =
+      let f = round r n in
+      let y : ys ≡ bytes_at f p left = one ∙ ap (λ x. take x (drop start r)) ej ∙ first_taken in
+      let w : zs ≡ bytes_at f (p + left) (length l - left) = two ∙ ap (λ x. take x (drop header_size r)) ek ∙ rest_taken in
+      let whole = ys ++ drop left l in
+      let back : drop (length whole - left) (drop left whole) ≡ [] = drop_of_length-le (drop left whole) (let g = length-drop left whole in omega arith) in
+      let e : left + (length l - left) ≡ length l = omega arith in
+      ap (λ x. x ++ (zs ++ drop (length whole - left) (drop left whole))) (take_at ys (drop left l) left (ap length y ∙ bytes_length f p left))
+      ∙ ap (λ x. ys ++ (zs ++ x)) back ∙ ap (◌++◌ ys) (append-nil zs)
+      ∙ rw (y, w) (sym (bytes_append left (length l - left) f p) ∙ ap (bytes_at f p) e)
 
 -- ---- storing: one move after the other is both
 
-pub put_both : (bs r r₁ r₂ : List ℕ) (n p a : ℕ) → a ≤ length bs → r₁ ≡ put r n p (take (a - 0) bs) → r₂ ≡ put r₁ n (p + a) (take (length bs - a) (drop a bs)) → r₂ ≡ put r n p bs
-put_both bs r r₁ r₂ n p a h one two =
-    let k : length (take a bs) ≡ a = length-take-le a bs h in
-    let first : r₁ ≡ put r n p (take a bs) = one ∙ ap (λ x. put r n p (take x bs)) (sub-zero a) in
-    let rest : take (length bs - a) (drop a bs) ≡ drop a bs = take_all (length bs - a) (drop a bs) (let y = length-drop a bs in omega arith) in
-    put_join (take a bs) (drop a bs) r n p first (two ∙ ap (put r₁ n (p + a)) rest ∙ ap (λ x. put r₁ n (p + x) (drop a bs)) (sym k)) ∙ ap (put r n p) (take-append-drop a bs)
+module _ (bs r : List ℕ) (n p start left : ℕ) (z : Sized r n) (fits : length bs ≤ span_of n)
+    (b : start ≡ header_size + (p % span_of n)) (q : left ≡ min (length bs) (span_of n - (p % span_of n))) where
+  first_put : (j : ℕ) (ys : List ℕ) → j ≡ left → ys ≡ take left bs → put_mid start j r ys ≡ put r n p (take left bs)
+  first_put j ys ej ey =
+      let k = length-take-le left bs (omega arith) in
+      let m = mod-lt p (let w : 0 < span_of n = omega (arith, z.low) in w) in
+      rw (ej, ey) (put_run (take left bs) r n p start left z b (sym k) (omega arith))
 
-pub zeros_both : (r r₁ r₂ : List ℕ) (n p a c : ℕ) → a ≤ c → r₁ ≡ put r n p (replicate a 0) → r₂ ≡ put r₁ n (p + a) (replicate (c - a) 0) → r₂ ≡ put r n p (replicate c 0)
-zeros_both r r₁ r₂ n p a c h one two =
-    let w : a + (c - a) ≡ c = omega arith in
-    put_join (replicate a 0) (replicate (c - a) 0) r n p one (two ∙ ap (λ x. put r₁ n (p + x) (replicate (c - a) 0)) (sym (length-replicate {A = ℕ} a 0)))
-    ∙ ap (put r n p) (replicate-append-replicate a (c - a) 0 ∙ ap (λ k. replicate k 0) w)
+  rest_put : put_mid header_size (length bs - left) (put r n p (take left bs)) (drop left bs) ≡ put (put r n p (take left bs)) n (p + left) (drop left bs)
+  unfolding put
+  rest_put =
+      ⊎_elim
+      (λ l.
+      let e : left ≡ span_of n - (p % span_of n) = omega arith in
+      let t : (p + left) % span_of n ≡ 0 = ap (λ x. (p + x) % span_of n) e ∙ turned p (span_of n) (omega (arith, z.low)) in
+      let d = length-drop left bs in
+      put_run (drop left bs) (put r n p (take left bs)) n (p + left) header_size (length bs - left) (sized_as _ z (length_put (take left bs) r n p)) (omega arith) (sym d) (omega arith))
+      (λ l.
+      let e : length bs - left ≡ 0 = omega arith in
+      let d : drop left bs ≡ [] = drop_of_length-le bs (omega arith) in
+      rw (e, d) (take-append-drop header_size (put r n p (take left bs))))
+      (lt_or_le (span_of n - (p % span_of n)) (length bs))
+
+  pub put_two : (j k : ℕ) (ys zs : List ℕ) → j ≡ left → k ≡ length bs - left → ys ≡ take left bs → zs ≡ drop left bs
+      → put_mid header_size k (put_mid start j r ys) zs ≡ put r n p bs
+  put_two j k ys zs ej ek ey ez =
+      let l = length-take-le left bs (omega arith) in
+      ap (λ x. put_mid header_size k x zs) (first_put j ys ej ey) ∙ rw (ek, ez) rest_put
+      ∙ ap (λ x. put (put r n p (take left bs)) n (p + x) (drop left bs)) (sym l)
+      ∙ sym (put_append (take left bs) (drop left bs) r n p) ∙ ap (put r n p) (take-append-drop left bs)
+
+-- and so of zeros
+
+front_zeros : (m c d : ℕ) (ys : List ℕ) → ys ≡ replicate m 0 → m ≡ d → d ≤ c → ys ≡ take d (replicate c 0)
+front_zeros m c d ys e q h = e ∙ ap (λ x. replicate x 0) q ∙ sym (take-replicate d c 0 h)
+
+rest_zeros : (m c d : ℕ) (zs : List ℕ) → zs ≡ replicate m 0 → m ≡ c - d → zs ≡ drop d (replicate c 0)
+rest_zeros m c d zs e q = e ∙ ap (λ x. replicate x 0) q ∙ sym (drop-replicate d c 0)
+
+pub zeros_two : (r : List ℕ) (n p c start left : ℕ) → Sized r n → c ≤ span_of n → start ≡ header_size + (p % span_of n) → left ≡ min c (span_of n - (p % span_of n))
+    → (j k : ℕ) (ys zs : List ℕ) → j ≡ left → k ≡ c - left → ys ≡ replicate (length (take j (drop start r))) 0
+    → zs ≡ replicate (length (take k (drop header_size (put_mid start j r ys)))) 0 → put_mid header_size k (put_mid start j r ys) zs ≡ put r n p (replicate c 0)
+zeros_two r n p c start left z fits b q j k ys zs ej ek ey ez =
+    let bs : List ℕ = replicate c 0 in
+    let whole = put_mid start j r ys in
+    let all = length-replicate {A = ℕ} c 0 in
+    let m = mod-lt p (let w : 0 < span_of n = omega (arith, z.low) in w) in
+    let d = length-drop start r in
+    let one : length (take j (drop start r)) ≡ left = omega (arith, ej, length-take-le j (drop start r) (omega (arith, z.len))) in
+    let y : ys ≡ take left bs = front_zeros _ c left ys ey one (omega arith) in
+    let first : whole ≡ put r n p (take left bs) = first_put bs r n p start left z (omega arith) b (omega arith) j ys ej y in
+    let long : length whole ≡ length r = omega (arith, ap length first, length_put (take left bs) r n p) in
+    let e = length-drop header_size whole in
+    let rest = drop header_size whole in
+    let two : length (take k rest) ≡ c - left = omega (arith, ek, length-take-le k rest (omega (arith, z.len))) in
+    let w : zs ≡ drop left bs = rest_zeros _ c left zs ez two in
+    put_two bs r n p start left z (omega arith) b (omega arith) j k ys zs ej (omega arith) y w

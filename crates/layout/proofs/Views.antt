@@ -7,7 +7,7 @@ use mathlib.Core.Bool.{true}
 use native.Mathlib.Omega.{arith}
 use native.Mathlib.Nat.{add-zero, zero-add, mod-lt, mod-eq_of_lt, mod-add-mod, mul-add-mod_self_right, div-add-mod', mul_assoc, add-mul}
 use lib.ListN.{length, get_or, take, drop, length-drop}
-use lib.Seq.{ext_get_or, length-take-le, get_or-take, get_or-drop}
+use lib.Seq.{ext_get_or, length-take-le, get_or-take, get_or-drop, drop-cons}
 use borrow.Author.Tests.{eq-eqb}
 use Rattle.layout.specs.Sizes.{header_size, slot_size, span_of}
 use Rattle.layout.specs.Bytes.{Sized, flat, round, number2, number4, number8, bytes_at, both, zeros_at, Same}
@@ -152,6 +152,19 @@ round_flat r n p c h =
           let d : header_size + ((p + i) % m) ≡ header_size + (p % m) + i = omega arith in
           ap (flat r) d;
     }
+
+-- the bytes of a buffer from a place on, as a part of its list
+pub flat_bytes : (c a : ℕ) (r : List ℕ) → a + c ≤ length r → bytes_at (flat r) a c ≡ take c (drop a r)
+unfolding bytes_at
+flat_bytes zero a r h = refl
+flat_bytes (suc c) a r h =
+    let l : a < length r = omega arith in
+    rw (drop-cons r a 0) (ap (◌∷◌ (get_or r a 0)) (flat_bytes c (suc a) r (omega arith)))
+
+-- and the bytes of such a run of the slots
+pub round_bytes : (r : List ℕ) (n p c : ℕ) → Sized r n → (p % span_of n) + c ≤ span_of n → take c (drop (header_size + (p % span_of n)) r) ≡ bytes_at (round r n) p c
+round_bytes r n p c z h =
+    sym (bytes_same c (round_flat r n p c h) ∙ flat_bytes c (header_size + (p % span_of n)) r (omega (arith, z.len)))
 
 -- where slot s starts, the slots counted on and not turned round
 pub slot_start : (n s : ℕ) → 0 < n → (s * slot_size) % span_of n ≡ (s % n) * slot_size

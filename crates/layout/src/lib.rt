@@ -4,22 +4,9 @@
 // told of, and only our own crates call it: the callers show what it requires.
 #![tactic(auto)]
 
-ghost use Rattle.std.specs.Prelude.{◌≡◌, ◌+◌, ◌*◌, ◌%◌, ◌≤◌, ◌<◌, length, replicate};
-ghost use Rattle.layout.specs.Sizes.{span_of, slots_of};
-ghost use Rattle.layout.specs.Bytes.{
-  Sized,
-  flat,
-  round,
-  number2,
-  number4,
-  number8,
-  bytes_at,
-  zeros_at,
-  bytes2,
-  bytes4,
-  bytes8,
-  put,
-};
+ghost use Rattle.std.specs.Prelude.{◌≡◌, ◌+◌, ◌-◌, ◌*◌, ◌%◌, ◌≤◌, ◌<◌, length, replicate, min};
+ghost use Rattle.layout.specs.Sizes.{header_size, fewest_slots, most_slots, span_of, slots_of};
+ghost use Rattle.layout.specs.Bytes.{Sized, flat, round, bytes_at, zeros_at, put};
 
 // A ring as its header tells it.
 #[derive(Clone, Copy)]
@@ -58,7 +45,7 @@ impl Ring {
     pub fn slots(length: u32) -> usize
         ensures { result ≡ slots_of length }
     {
-        (Ring::HEAD + length as usize + (Ring::SLOT - 1)) / Ring::SLOT
+        (Ring::HEAD + length as usize).div_ceil(Ring::SLOT)
     }
 }
 
@@ -70,28 +57,14 @@ pub fn byte_at(bytes: &[u8], p: usize) -> u32
     bytes[p] as u32
 }
 
-// The number in the two bytes at p.
-pub fn number2_at(bytes: &[u8], p: usize) -> u32
-    requires { p + 2 ≤ length bytes.now }
-    ensures { (result ≡ number2 (flat bytes.now) p) × (result < 65536) }
+// The N bytes at p. A number in them is what `from_le_bytes` of its type reads (proofs/Numbers, `le2`, `le4` and `le8`).
+pub fn array_at<const N: usize>(bytes: &[u8], p: usize) -> [u8; N]
+    requires { p + N ≤ length bytes.now }
+    ensures { result ≡ bytes_at (flat bytes.now) p N }
 {
-    byte_at(bytes, p) + 256 * byte_at(bytes, p + 1)
-}
-
-// The number in the four bytes at p.
-pub fn number4_at(bytes: &[u8], p: usize) -> u32
-    requires { p + 4 ≤ length bytes.now }
-    ensures { (result ≡ number4 (flat bytes.now) p) × (result < 4294967296) }
-{
-    number2_at(bytes, p) + 65536 * number2_at(bytes, p + 2)
-}
-
-// The number in the eight bytes at p.
-pub fn number8_at(bytes: &[u8], p: usize) -> u64
-    requires { p + 8 ≤ length bytes.now }
-    ensures { result ≡ number8 (flat bytes.now) p }
-{
-    number4_at(bytes, p) as u64 + 4294967296 * (number4_at(bytes, p + 4) as u64)
+    let mut array = [0; N];
+    array.copy_from_slice(&bytes[p..p + N]);
+    array
 }
 
 // Whether the count bytes at p are zero. It looks at all of them: without a way out the compiler takes many bytes at once.
@@ -100,12 +73,10 @@ pub fn zeros_at(bytes: &[u8], p: usize, count: usize) -> bool
     ensures { result ≡ zeros_at (flat bytes.now) p count }
 {
     let mut clear = true;
-    let mut i = 0;
-    while i < count {
-        if bytes[p + i] != 0 {
+    for byte in &bytes[p..p + count] {
+        if *byte != 0 {
             clear = false;
         }
-        i += 1;
     }
     clear
 }
@@ -122,6 +93,7 @@ pub fn around(p: usize, n: usize) -> usize
 }
 
 // The byte at place p of n slots, round the end.
+#[tactic(auto, unfolding(crate::specs::Bytes::round))]
 pub fn round_at(bytes: &[u8], n: usize, p: usize) -> u8
     requires { Sized bytes.now n }
     ensures { result ≡ round bytes.now n p }
@@ -130,19 +102,16 @@ pub fn round_at(bytes: &[u8], n: usize, p: usize) -> u8
     bytes[Ring::HEADER + around(p, span)]
 }
 
-// Copies out the bytes at place p of n slots until the lent part is full; they don't go round the end.
-fn take_run(bytes: &[u8], n: usize, p: usize, out: &mut [u8])
-    requires sized { Sized bytes.now n }
-    requires out_bound { (p % span_of n) + length out.old ≤ span_of n }
-    ensures { out.new ≡ bytes_at (round bytes.now n) p (length out.old) }
+// The byte of the buffer where a run of count bytes at place p of n slots begins, and how many of them stand before
+// the ring's end. The rest begins at slot 0.
+fn run_at(n: usize, p: usize, count: usize) -> (usize, usize)
+    requires { (fewest_slots ≤ n) × (n ≤ most_slots) }
+    ensures start { result.0 ≡ header_size + (p % span_of n) }
+    ensures left { result.1 ≡ min count (span_of n - (p % span_of n)) }
 {
     let span = n * Ring::SLOT;
-    let start = Ring::HEADER + around(p, span);
-    let mut i = 0;
-    while i < out.len() {
-        out[i] = bytes[start + i];
-        i += 1;
-    }
+    let turned = around(p, span);
+    (Ring::HEADER + turned, count.min(span - turned))
 }
 
 // Copies out the bytes at place p of n slots, round the end, until the lent part is full: up to the ring's end, and then the rest.
@@ -151,30 +120,10 @@ pub fn take_bytes(bytes: &[u8], n: usize, p: usize, out: &mut [u8])
     requires out_bound { p + length out.old ≤ span_of n + span_of n }
     ensures { out.new ≡ bytes_at (round bytes.now n) p (length out.old) }
 {
-    let span = n * Ring::SLOT;
-    let left = span - around(p, span);
-    let count = out.len();
-    if count <= left {
-        take_run(bytes, n, p, out);
-        return;
-    }
-    take_run(bytes, n, p, &mut out[0..left]);
-    take_run(bytes, n, p + left, &mut out[left..count]);
-}
-
-// Stores src at place p of n slots; it doesn't go round the end.
-fn put_run(bytes: &mut [u8], n: usize, p: usize, src: &[u8])
-    requires sized { Sized bytes.old n }
-    requires src_bound { (p % span_of n) + length src.now ≤ span_of n }
-    ensures { bytes.new ≡ put bytes.old n p src.now }
-{
-    let span = n * Ring::SLOT;
-    let start = Ring::HEADER + around(p, span);
-    let mut i = 0;
-    while i < src.len() {
-        bytes[start + i] = src[i];
-        i += 1;
-    }
+    let (start, left) = run_at(n, p, out.len());
+    let rest = out.len() - left;
+    out[..left].copy_from_slice(&bytes[start..start + left]);
+    out[left..].copy_from_slice(&bytes[Ring::HEADER..Ring::HEADER + rest]);
 }
 
 // Stores src at place p of n slots, round the end: up to the ring's end, and then the rest.
@@ -183,30 +132,10 @@ pub fn put_bytes(bytes: &mut [u8], n: usize, p: usize, src: &[u8])
     requires p_bound { (p ≤ span_of n + span_of n) × (length src.now ≤ span_of n) }
     ensures { bytes.new ≡ put bytes.old n p src.now }
 {
-    let span = n * Ring::SLOT;
-    let left = span - around(p, span);
-    let count = src.len();
-    if count <= left {
-        put_run(bytes, n, p, src);
-        return;
-    }
-    put_run(bytes, n, p, &src[0..left]);
-    put_run(bytes, n, p + left, &src[left..count]);
-}
-
-// Stores count zeros at place p of n slots; they don't go round the end.
-fn put_zero_run(bytes: &mut [u8], n: usize, p: usize, count: usize)
-    requires sized { Sized bytes.old n }
-    requires count_bound { (p % span_of n) + count ≤ span_of n }
-    ensures { bytes.new ≡ put bytes.old n p (replicate count 0) }
-{
-    let span = n * Ring::SLOT;
-    let start = Ring::HEADER + around(p, span);
-    let mut i = 0;
-    while i < count {
-        bytes[start + i] = 0;
-        i += 1;
-    }
+    let (start, left) = run_at(n, p, src.len());
+    let rest = src.len() - left;
+    bytes[start..start + left].copy_from_slice(&src[..left]);
+    bytes[Ring::HEADER..Ring::HEADER + rest].copy_from_slice(&src[left..]);
 }
 
 // Stores count zeros at place p of n slots, round the end.
@@ -215,42 +144,7 @@ pub fn put_zeros(bytes: &mut [u8], n: usize, p: usize, count: usize)
     requires p_bound { (p ≤ span_of n + span_of n) × (count ≤ span_of n) }
     ensures { bytes.new ≡ put bytes.old n p (replicate count 0) }
 {
-    let span = n * Ring::SLOT;
-    let left = span - around(p, span);
-    if count <= left {
-        put_zero_run(bytes, n, p, count);
-        return;
-    }
-    put_zero_run(bytes, n, p, left);
-    put_zero_run(bytes, n, p + left, count - left);
-}
-
-// Stores a number as two bytes at place p of n slots, round the end: its lowest 16 bits.
-pub fn put_number2(bytes: &mut [u8], n: usize, p: usize, x: u64)
-    requires sized { Sized bytes.old n }
-    requires p_bound { p ≤ span_of n + span_of n }
-    ensures { bytes.new ≡ put bytes.old n p (bytes2 x) }
-{
-    let two = [(x % 256) as u8, (x / 256 % 256) as u8];
-    put_bytes(bytes, n, p, &two);
-}
-
-// The same as four bytes: its lowest 32 bits.
-pub fn put_number4(bytes: &mut [u8], n: usize, p: usize, x: u64)
-    requires sized { Sized bytes.old n }
-    requires p_bound { p + 2 ≤ span_of n + span_of n }
-    ensures { bytes.new ≡ put bytes.old n p (bytes4 x) }
-{
-    put_number2(bytes, n, p, x);
-    put_number2(bytes, n, p + 2, x / 65536);
-}
-
-// The same as eight bytes.
-pub fn put_number8(bytes: &mut [u8], n: usize, p: usize, x: u64)
-    requires sized { Sized bytes.old n }
-    requires p_bound { p + 6 ≤ span_of n + span_of n }
-    ensures { bytes.new ≡ put bytes.old n p (bytes8 x) }
-{
-    put_number4(bytes, n, p, x);
-    put_number4(bytes, n, p + 4, x / 4294967296);
+    let (start, left) = run_at(n, p, count);
+    bytes[start..start + left].fill(0);
+    bytes[Ring::HEADER..Ring::HEADER + (count - left)].fill(0);
 }

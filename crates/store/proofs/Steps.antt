@@ -6,17 +6,17 @@ use mathlib.Core.Bool.{Bool, true, false}
 use native.Mathlib.Omega.{arith}
 use native.Mathlib.Nat.{add-zero, mod-lt, mod-zero}
 use lib.ListN.{length, get_or, set, take, drop, length-set, length-append, length-take, length-drop, take-append-drop}
-use lib.Seq.{length-take-le, set-get_or}
+use lib.Seq.{length-take-le, set-get_or, sets}
 use lib.Dec.{eqb}
 use borrow.Author.Tests.{eqb-true}
 use Rattle.layout.specs.Sizes.{header_size, slot_size, span_of, slots_of}
 use Rattle.layout.specs.Bytes.{flat, put}
-use Rattle.layout.proofs.Views.{run_place, slot_start}
-use Rattle.layout.proofs.Puts.{put_append}
+use Rattle.layout.proofs.Views.{slot_start}
+use Rattle.layout.proofs.Puts.{put_append, run_sets}
 use Rattle.walk.specs.declared.Entry.{Entry}
 use Rattle.store.specs.Steps.{Step, in_slot, one_byte, put_at, place_of, run_step, run, torn, cut}
-use Rattle.image.specs.Image as image
-use Rattle.store.specs.Store.{name_bytes, range_bytes, head_bytes, entry_bytes, tail_after, stored, head_moved}
+use Rattle.image.specs.Image.{entry_bytes}
+use Rattle.store.specs.Store.{tail_after, stored, head_moved}
 use Rattle.store.specs.Storing.{slot_steps, tail_step, store_steps, head_step, unless_same, head_steps}
 use Rattle.image.proofs.Stored.{entry_length}
 
@@ -86,15 +86,14 @@ cut_length (x ∷ xs) r (suc k) junk = cut_length xs (run_step r x) k junk ∙ s
 
 -- ---- a store in the buffer and a store in the slots are the same where it doesn't go round the end
 
+-- bytes stored at a place are a write to each of its places
+pub at_sets : (bs r : List ℕ) (p : ℕ) → put_at r p bs ≡ sets r p bs
+unfolding put_at
+at_sets [] r p = refl
+at_sets (b ∷ bs) r p = at_sets bs (set r p b) (suc p)
+
 at_put : (bs r : List ℕ) (n p i : ℕ) → (p % span_of n) + i + length bs ≤ span_of n → put_at r (header_size + (p % span_of n) + i) bs ≡ put r n (p + i) bs
-unfolding put_at put
-at_put [] r n p i h = refl
-at_put (b ∷ bs) r n p i h =
-    let e = run_place p (span_of n) i (omega arith) in
-    let d : header_size + ((p + i) % span_of n) ≡ header_size + (p % span_of n) + i = omega arith in
-    let x : suc (header_size + (p % span_of n) + i) ≡ header_size + (p % span_of n) + (i + 1) = omega arith in
-    let y : suc (p + i) ≡ p + (i + 1) = omega arith in
-    rw (d, x, y) (at_put bs (set r (header_size + (p % span_of n) + i) b) n p (i + 1) (omega arith))
+at_put bs r n p i h = at_sets bs r (header_size + (p % span_of n) + i) ∙ sym (run_sets bs r n p i h)
 
 -- a ring of no slots has no end to go round
 put_bare : (bs r : List ℕ) (p : ℕ) → put_at r (header_size + p) bs ≡ put r 0 p bs
@@ -167,34 +166,29 @@ module _ (n : ℕ) where
 
 -- ---- storing an entry
 
--- the bytes of an entry that image's specs name are those that Store names
-pub entry_same : (e : Entry) (bs : List ℕ) → entry_bytes e bs ≡ image.entry_bytes e bs
-unfolding entry_bytes head_bytes name_bytes range_bytes image.entry_bytes image.head_bytes image.name_bytes image.range_bytes
-entry_same e bs = refl
-
 module _ (r : List ℕ) (n : ℕ) (e : Entry) (bs : List ℕ) (l : e.length ≡ length bs) where
   -- its slots as one store, and then the tail byte
-  pub stored_is : run r (store_steps n e bs) ≡ set (put r n (e.slot * slot_size) (image.entry_bytes e bs)) 3 (tail_after n e)
+  pub stored_is : run r (store_steps n e bs) ≡ set (put r n (e.slot * slot_size) (entry_bytes e bs)) 3 (tail_after n e)
   unfolding store_steps run
   stored_is =
-      run_append (slot_steps n e.slot (slots_of e.length) (image.entry_bytes e bs)) (tail_step (tail_after n e) ∷ []) r
-      ∙ ap (λ y. set y 3 (tail_after n e)) (slots_run n (slots_of e.length) e.slot (image.entry_bytes e bs) r (entry_length e bs l))
+      run_append (slot_steps n e.slot (slots_of e.length) (entry_bytes e bs)) (tail_step (tail_after n e) ∷ []) r
+      ∙ ap (λ y. set y 3 (tail_after n e)) (slots_run n (slots_of e.length) e.slot (entry_bytes e bs) r (entry_length e bs l))
 
   -- so what is stored is its steps, run
   pub stored_run : stored r n e bs ≡ run r (store_steps n e bs)
   unfolding stored
-  stored_run = ap (λ (x : List ℕ). set (put r n (e.slot * slot_size) x) 3 (tail_after n e)) (entry_same e bs) ∙ sym stored_is
+  stored_run = sym stored_is
 
   pub stored_cut : (k : ℕ) → k ≤ slots_of e.length → (junk : List ℕ) → Left n r e.slot (slots_of e.length) (cut r (store_steps n e bs) k junk)
   unfolding store_steps
-  stored_cut k h junk = slots_cut n (slots_of e.length) e.slot (image.entry_bytes e bs) r (entry_length e bs l) k h 3 (tail_after n e) junk
+  stored_cut k h junk = slots_cut n (slots_of e.length) e.slot (entry_bytes e bs) r (entry_length e bs l) k h 3 (tail_after n e) junk
 
 -- one step a slot, and one for the tail byte
 pub store_count : (n : ℕ) (e : Entry) (bs : List ℕ) → length (store_steps n e bs) ≡ slots_of e.length + 1
 unfolding store_steps
 store_count n e bs =
-    length-append (slot_steps n e.slot (slots_of e.length) (image.entry_bytes e bs)) (tail_step (tail_after n e) ∷ [])
-    ∙ ap (λ k. k + 1) (slots_count n (slots_of e.length) e.slot (image.entry_bytes e bs))
+    length-append (slot_steps n e.slot (slots_of e.length) (entry_bytes e bs)) (tail_step (tail_after n e) ∷ [])
+    ∙ ap (λ k. k + 1) (slots_count n (slots_of e.length) e.slot (entry_bytes e bs))
 
 -- ---- moving the head on
 

@@ -1,28 +1,16 @@
 -- The bytes of an entry, and the run of stores that lays them down.
 use Prim.Native.Nat.{ℕ, ◌+◌, ◌-◌, ◌*◌, ◌%◌}
-use mathlib.Core.Path.{◌≡◌, refl, sym}
-use mathlib.Core.List.{List, ◌++◌}
+use mathlib.Core.Path.{◌≡◌, sym}
+use mathlib.Core.List.{List}
 use native.Mathlib.Omega.{arith}
-use lib.ListN.{length, set, replicate, length-append, length-replicate}
-use Rattle.layout.specs.Sizes.{slot_size, head_size, slots_of, filler_of}
-use Rattle.layout.specs.Bytes.{bytes2, bytes4, bytes8, put}
+use lib.ListN.{length, set, replicate}
+use Rattle.layout.specs.Sizes.{slot_size, head_size, slots_of}
+use Rattle.layout.specs.Bytes.{put}
 use Rattle.layout.proofs.Puts.{put_append}
 use Rattle.walk.specs.declared.Entry.{Entry}
-use Rattle.store.specs.Store.{name_bytes, range_bytes, head_bytes, entry_bytes, stored}
-
-pub head_length : (e : Entry) → length (head_bytes e) ≡ head_size
-unfolding head_bytes name_bytes range_bytes bytes2 bytes4 bytes8
-head_length e = refl
-
--- an entry's bytes fill its slots
-pub entry_length : (e : Entry) (bs : List ℕ) → e.length ≡ length bs → length (entry_bytes e bs) ≡ slots_of e.length * slot_size
-unfolding entry_bytes
-entry_length e bs l =
-    let fill = filler_of e.length in
-    let a = length-append (head_bytes e) (bs ++ replicate fill 0) in
-    let b = length-append bs (replicate fill 0) in
-    let d = length-replicate {A = ℕ} fill 0 in
-    omega (arith, a, b, d, head_length e)
+use Rattle.image.specs.Image.{head_bytes, entry_bytes}
+use Rattle.store.specs.Store.{stored}
+pub use Rattle.image.proofs.Stored.{head_length, entry_length}
 
 -- head, bytes and filler stored one after the other, and then the tail byte
 pub stored_by : (r : List ℕ) (n : ℕ) (e : Entry) (bs r₁ r₂ r₃ : List ℕ) (k : ℕ)

@@ -1,16 +1,16 @@
--- Step i of storing an entry as the code makes it, and the loop over a slot's bytes.
+-- Step i of storing an entry as the code makes it.
 use Prim.Native.Nat.{ℕ, zero, suc, ◌+◌, ◌*◌, ◌%◌, ◌≤◌, ◌<◌}
-use mathlib.Core.Path.{◌≡◌, refl, sym, ap, ◌∙◌}
+use mathlib.Core.Path.{◌≡◌, sym, ap, ◌∙◌}
 use mathlib.Core.List.{List, [], ◌∷◌, ◌++◌}
 use native.Mathlib.Omega.{arith}
 use native.Mathlib.Nat.{mod-eq_of_lt}
-use lib.ListN.{length, get_or, set, take, drop, length-set, drop_of_length-le}
-use lib.Seq.{drop-drop, drop-cons, get_or-append_seam}
+use lib.ListN.{get_or, set, take, drop}
+use lib.Seq.{drop-drop, get_or-append_seam}
 use Rattle.layout.specs.Sizes.{slot_size, slots_of}
 use Rattle.layout.proofs.Sizes.{slots_some}
 use Rattle.walk.specs.declared.Entry.{Entry}
 use Rattle.image.specs.Image.{entry_bytes, slot_bytes}
-use Rattle.store.specs.Steps.{Step, in_slot, put_at, run_step}
+use Rattle.store.specs.Steps.{Step, in_slot, run_step}
 use Rattle.store.specs.Store.{tail_after}
 use Rattle.store.specs.Storing.{slot_steps, tail_step, store_steps, store_step}
 use Rattle.store.proofs.Steps.{slots_count}
@@ -53,29 +53,3 @@ module _ (n : ℕ) (e : Entry) (bs : List ℕ) where
 
     pub step_tail : (k v : ℕ) → k ≡ slots_of e.length → i ≤ slots_of e.length → k ≤ i → v ≡ (e.slot + k) % n → out ≡ run_step r (tail_step v) → out ≡ run_step r (store_step n e bs i)
     step_tail k v a h l w o = o ∙ ap (λ x. set r 3 x) (w ∙ ap (λ x. (e.slot + x) % n) a) ∙ ap (run_step r) (sym (store_tail i (omega arith)))
-
--- ---- the loop over a slot's bytes
-
-pub record Laying (r₀ : List ℕ) (p : ℕ) (bs : List ℕ) (r : List ℕ) (i : ℕ) : Type 0 where
-  pub upto : i ≤ length bs
-  pub same : length r ≡ length r₀
-  pub rest : put_at r₀ p bs ≡ put_at r (p + i) (drop i bs)
-
-module _ (r₀ : List ℕ) (p : ℕ) (bs : List ℕ) where
-  pub lay_start : Laying r₀ p bs r₀ 0
-  lay_start = record { upto = omega arith; same = refl; rest = ap (λ q. put_at r₀ q bs) (let e : p ≡ p + 0 = omega arith in e) }
-
-  pub lay_next : (r : List ℕ) (i : ℕ) → Laying r₀ p bs r i → i < length bs → Laying r₀ p bs (set r (p + i) (get_or bs i 0)) (i + 1)
-  unfolding put_at
-  lay_next r i o h =
-      let w : suc i ≡ i + 1 = omega arith in
-      let v : suc (p + i) ≡ p + (i + 1) = omega arith in
-      record {
-        upto = omega arith;
-        same = length-set r (p + i) (get_or bs i 0) ∙ o.same;
-        rest = o.rest ∙ ap (put_at r (p + i)) (drop-cons bs i 0 h) ∙ ap (λ q. put_at (set r (p + i) (get_or bs i 0)) q (drop (suc i) bs)) v ∙ ap (λ k. put_at (set r (p + i) (get_or bs i 0)) (p + (i + 1)) (drop k bs)) w;
-      }
-
-  pub lay_done : (r : List ℕ) (i : ℕ) → Laying r₀ p bs r i → length bs ≤ i → r ≡ put_at r₀ p bs
-  unfolding put_at
-  lay_done r i o h = sym (o.rest ∙ ap (put_at r (p + i)) (drop_of_length-le bs h))

@@ -1,11 +1,12 @@
 -- What is stored in a ring: an empty header, an entry, a head byte. Document 01, "The ring in battery memory".
-use Rattle.std.specs.Prelude.{ℕ, ◌+◌, ◌-◌, ◌*◌, ◌/◌, ◌%◌, Bool, true, false, List, ◌∷◌, ◌++◌, length, set, replicate, drop}
+use Rattle.std.specs.Prelude.{ℕ, ◌+◌, ◌-◌, ◌*◌, ◌/◌, ◌%◌, Bool, true, false, List, ◌∷◌, ◌++◌, length, set, replicate, drop, Result, Ok, Err}
+use Rattle.reason.specs.declared.Reason.{Reason}
 use Rattle.reason.specs.declared.Reason.TheVariants.{BadBuffer}
-use Rattle.layout.specs.Sizes.{edition, header_size, slot_size, slots_of, filler_of}
-use Rattle.layout.specs.Bytes.{is_ring_length, bytes2, bytes4, bytes8, put}
+use Rattle.layout.specs.Sizes.{edition, header_size, slot_size, slots_of}
+use Rattle.layout.specs.Bytes.{is_ring_length, put}
 use Rattle.walk.specs.declared.Entry.{Entry}
-use Rattle.store.specs.declared.Made.{Made}
-use Rattle.store.specs.declared.Made.TheVariants.{Ready, Refused}
+-- an entry's bytes stand in image's specs
+unfoldable pub use Rattle.image.specs.Image.{name_bytes, range_bytes, head_bytes, entry_bytes}
 
 -- ---- making an empty ring
 
@@ -28,28 +29,14 @@ pick_bytes false a b = b
 unfoldable pub made : List ℕ → List ℕ
 made r = pick_bytes (is_makeable (length r)) (empty_header (slots_for (length r)) ++ drop header_size r) r
 
-abbrev pub pick_made : Bool → Made
-pick_made true = Ready
-pick_made false = Refused BadBuffer
+abbrev pub pick_made : Bool → Result Unit Reason
+pick_made true = Ok tt
+pick_made false = Err BadBuffer
 
-unfoldable pub made_answer : List ℕ → Made
+unfoldable pub made_answer : List ℕ → Result Unit Reason
 made_answer r = pick_made (is_makeable (length r))
 
 -- ---- storing an entry
-
--- the table of an entry's head: bytes 0 to 15, and 16 to 23
-unfoldable pub name_bytes : Entry → List ℕ
-name_bytes e = bytes8 e.number ++ (bytes4 e.node ++ bytes4 e.handle)
-
-unfoldable pub range_bytes : Entry → List ℕ
-range_bytes e = bytes4 e.offset ++ (bytes2 e.length ++ bytes2 e.zero)
-
-unfoldable pub head_bytes : Entry → List ℕ
-head_bytes e = name_bytes e ++ range_bytes e
-
--- "the bytes, then zeros to the slot's end"
-unfoldable pub entry_bytes : Entry → List ℕ → List ℕ
-entry_bytes e bs = head_bytes e ++ (bs ++ replicate (filler_of e.length) 0)
 
 -- the tail slot after an entry
 abbrev pub tail_after : ℕ → Entry → ℕ

@@ -17,11 +17,7 @@ fn put_slot(bytes: &mut [u8], slot: usize, image: &[u8])
     ensures { bytes.new ≡ run_step bytes.old (in_slot slot image.now) }
 {
     let start = Ring::HEADER + slot * Ring::SLOT;
-    let mut i = 0;
-    while i < image.len() {
-        bytes[start + i] = image[i];
-        i += 1;
-    }
+    bytes[start..start + image.len()].copy_from_slice(image);
 }
 
 // Stores one byte.

@@ -109,12 +109,12 @@ fn head_at(bytes: &[u8], p: usize, slot: u32) -> Entry
     ensures length_bound { result.length < 65536 }
 {
     Entry {
-        number: layout::number8_at(bytes, p),
-        node: layout::number4_at(bytes, p + 8),
-        handle: layout::number4_at(bytes, p + 12),
-        offset: layout::number4_at(bytes, p + 16),
-        length: layout::number2_at(bytes, p + 20),
-        zero: layout::number2_at(bytes, p + 22),
+        number: u64::from_le_bytes(layout::array_at(bytes, p)),
+        node: u32::from_le_bytes(layout::array_at(bytes, p + 8)),
+        handle: u32::from_le_bytes(layout::array_at(bytes, p + 12)),
+        offset: u32::from_le_bytes(layout::array_at(bytes, p + 16)),
+        length: u32::from(u16::from_le_bytes(layout::array_at(bytes, p + 20))),
+        zero: u32::from(u16::from_le_bytes(layout::array_at(bytes, p + 22))),
         slot,
     }
 }

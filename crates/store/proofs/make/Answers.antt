@@ -1,6 +1,7 @@
 -- `store::make` meets its contract. A length that is not a ring's contradicts `Sized`; where none is left, the header goes to the front.
 use Prim.Native.Nat.{ℕ}
-use mathlib.Core.Path.{ap, ◌∙◌}
+use mathlib.Core.Path.{sym, ap, ◌∙◌}
+use lib.Seq.{length-take-le}
 use mathlib.Core.List.{List, ◌++◌}
 use native.Mathlib.Omega.{arith}
 use lib.ListN.{length, drop}
@@ -21,8 +22,11 @@ returns-then-n-gt-MOST c = let w = (made_no _ (λ z. omega (arith, z.high))) in 
 pub returns-then-bytes-n : goal.returns-then-bytes-n
 returns-then-bytes-n c = let w = (made_no _ (λ z. omega (arith, z.len))) in record { answer = w.0; bytes = w.1 }
 
+pub copy_from_slice-requires : goal.copy_from_slice-requires
+copy_from_slice-requires c = length-take-le 16 c.args.bytes.now (omega arith) ∙ sym (ap length c.empty_header.ensures)
+
 pub returns : goal.returns
 returns c = let r = c.args.bytes.now in
     let z : Sized r (slots_for (length r)) = record { low = omega arith; high = omega arith; len = omega arith } in
     let w = made_yes r z in
-    record { answer = w.0; bytes = c.put_front.ensures ∙ ap (λ (h : List ℕ). h ++ drop (length h) r) c.empty_header-header.ensures ∙ w.1 }
+    record { answer = w.0; bytes = ap (λ (h : List ℕ). h ++ drop 16 r) (c.copy_from_slice.ensures.after ∙ c.empty_header.ensures) ∙ w.1 }

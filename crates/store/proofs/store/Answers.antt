@@ -1,6 +1,8 @@
 -- `store::store` meets its contract. Head, bytes and filler are one run of bytes, cut in three (Stored, `stored_by`); the tail byte comes last.
-use Prim.Native.Nat.{◌+◌, ◌<◌}
-use mathlib.Core.Path.{◌∙◌}
+use Prim.Native.Nat.{◌+◌, ◌*◌, ◌<◌}
+use mathlib.Core.Path.{ap, ◌∙◌}
+use Rattle.layout.specs.Sizes.{slot_size}
+use Rattle.layout.specs.Bytes.{put}
 use native.Mathlib.Nat.{mod-lt}
 use native.Mathlib.Omega.{arith}
 use lib.ListN.{length-set}
@@ -13,9 +15,9 @@ overflow_cast-bytes c = let a = c.args in
     omega (arith, c.tail_after.ensures, mod-lt (a.entry.slot + c.slots-slots.result) z, c.requires.sized.high)
 
 pub shape_of-bytes : goal.shape_of-bytes
-shape_of-bytes c = simp length-set (c.put_zeros.auto.bytes ∙ c.put_bytes.auto.bytes ∙ c.put_head.auto.bytes)
+shape_of-bytes c = simp length-set (c.put_zeros.auto.bytes ∙ c.put_bytes-2.auto.bytes ∙ c.put_bytes.auto.bytes)
 
 pub returns : goal.returns
 returns c = let a = c.args in
     rw c.tail_after.ensures
-    (stored_by a.bytes.now a.n a.entry a.src.now _ _ _ c.slots-slots.result c.slots-slots.ensures c.requires.slot_lt_n.1 c.put_head.ensures c.put_bytes.ensures c.put_zeros.ensures)
+    (stored_by a.bytes.now a.n a.entry a.src.now _ _ _ c.slots-slots.result c.slots-slots.ensures c.requires.slot_lt_n.1 (c.put_bytes.ensures ∙ ap (put a.bytes.now a.n (a.entry.slot * slot_size)) c.head_bytes.ensures) c.put_bytes-2.ensures c.put_zeros.ensures)

@@ -1,19 +1,15 @@
--- `store::step::put_slot` meets its contract. The invariant `Laying`: what is stored so far, and what is still to be stored.
-use Rattle.store.proofs.Storing.{lay_start, lay_next, lay_done}
+-- `store::step::put_slot` meets its contract: a write to a part of the buffer is a write to each of its places (Puts, `mid_sets`).
+use Prim.Native.Nat.{◌+◌, ◌-◌, ◌*◌}
+use mathlib.Core.Path.{◌≡◌, sym, ap, ◌∙◌}
+use borrow.Rule.Slice.PartMut.{put_mid}
+use lib.ListN.{length}
 use native.Mathlib.Omega.{arith}
+use Rattle.layout.proofs.Puts.{mid_sets}
+use Rattle.store.proofs.Steps.{at_sets}
 use Rattle.store.proofs.step.put_slot.Goals as goal
 
-pub loop-i-init : goal.loop-i-init
-loop-i-init c = lay_start _ _ _
-
-pub bounds-bytes-start : goal.bounds-bytes-start
-bounds-bytes-start c = omega (arith, c.loop-i.invariant.same, c.requires)
-
-pub loop-i-preserved : goal.loop-i-preserved
-loop-i-preserved c = lay_next _ _ _ _ _ c.loop-i.invariant (omega arith)
-
-pub shape_of-bytes : goal.shape_of-bytes
-shape_of-bytes c = c.loop-i.invariant.same
-
 pub returns : goal.returns
-returns c = lay_done _ _ _ _ _ c.loop-i.invariant (omega arith)
+returns c = let a = c.args in
+    let k : 16 + a.slot * 256 + length a.image.now - (16 + a.slot * 256) ≡ length a.image.now = omega arith in
+    ap (put_mid (16 + a.slot * 256) (16 + a.slot * 256 + length a.image.now - (16 + a.slot * 256)) a.bytes.now) c.copy_from_slice.ensures.after
+    ∙ mid_sets a.image.now a.bytes.now _ _ k (omega arith) ∙ sym (at_sets a.image.now a.bytes.now _)
