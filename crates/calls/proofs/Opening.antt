@@ -1,4 +1,5 @@
 -- What each return of make and reopen comes to: a ring that is made reopens as empty.
+use Rattle.std.specs.Prelude.{Result, Ok, Err}
 use Prim.Native.Nat.{ℕ}
 use mathlib.Core.Path.{◌≡◌, refl, sym, ◌∙◌, ap}
 use mathlib.Core.Bool.{Bool, true, false}
@@ -12,8 +13,6 @@ use Rattle.layout.proofs.Tests.{never, sized_sound}
 use Rattle.walk.specs.declared.Entry.{Entry}
 use Rattle.walk.specs.declared.Walked.{Walked}
 use Rattle.walk.specs.Walk.{Reading, readable, unreadable, reading_of, answer_of}
-use Rattle.store.specs.declared.Made.{Made}
-use Rattle.store.specs.declared.Made.TheVariants.{Ready, Refused}
 use Rattle.walk.proofs.Readings.{answer_refused}
 use Rattle.store.specs.Store.{slots_for, is_makeable, made, made_answer}
 use Rattle.ring.specs.Ring.{empty_ring}
@@ -48,7 +47,7 @@ module _ (r : List ℕ) (s : State) where
 
 -- ---- make
 
-same_made : (a b : Reason) → ◌≡◌ {A = Made} (Refused a) (Refused b) → a ≡ b
+same_made : (a b : Reason) → ◌≡◌ {A = Result (Unit {0}) Reason} (Err a) (Err b) → a ≡ b
 same_made a b e = cc
 
 module _ (r : List ℕ) (s : State) where
@@ -72,20 +71,20 @@ module _ (r : List ℕ) (s : State) where
   unfolding outcome refusal_of both made
   no_buffer e = rw e
 
-  refused_by : (why : Reason) (b : Bool) → is_makeable (length r) ≡ b → made_answer r ≡ Refused why → outcome_by (refuses why) s (made r) ≡ outcome make_ring r s
+  refused_by : (why : Reason) (b : Bool) → is_makeable (length r) ≡ b → made_answer r ≡ Err why → outcome_by (refuses why) s (made r) ≡ outcome make_ring r s
   unfolding made_answer
-  refused_by why true e o = never (let w : ◌≡◌ {A = Made} Ready (Refused why) = (rw e at o) in cc)
+  refused_by why true e o = never (let w : ◌≡◌ {A = Result (Unit {0}) Reason} (Ok tt) (Err why) = (rw e at o) in cc)
   refused_by why false e o =
       let z : why ≡ BadBuffer = same_made why BadBuffer (sym (rw e at o)) in
       rw z (no_buffer e)
 
-  pub make_refused : (why : Reason) → made_answer r ≡ Refused why → outcome_by (refuses why) s (made r) ≡ outcome make_ring r s
+  pub make_refused : (why : Reason) → made_answer r ≡ Err why → outcome_by (refuses why) s (made r) ≡ outcome make_ring r s
   make_refused why o = refused_by why (is_makeable (length r)) refl o
 
-  done_by_law : (b : Bool) → is_makeable (length r) ≡ b → made_answer r ≡ Ready → outcome_by (says []) (reopened []) (made r) ≡ outcome make_ring r s
+  done_by_law : (b : Bool) → is_makeable (length r) ≡ b → made_answer r ≡ Ok tt → outcome_by (says []) (reopened []) (made r) ≡ outcome make_ring r s
   unfolding made_answer
   done_by_law true e o = makes e
-  done_by_law false e o = never (let w : ◌≡◌ {A = Made} (Refused BadBuffer) Ready = (rw e at o) in cc)
+  done_by_law false e o = never (let w : ◌≡◌ {A = Result (Unit {0}) Reason} (Err BadBuffer) (Ok tt) = (rw e at o) in cc)
 
-  pub make_done : made_answer r ≡ Ready → (t : State) (r' : List ℕ) → r' ≡ made r → t ≡ reopened [] → outcome_by (says []) t r' ≡ outcome make_ring r s
+  pub make_done : made_answer r ≡ Ok tt → (t : State) (r' : List ℕ) → r' ≡ made r → t ≡ reopened [] → outcome_by (says []) t r' ≡ outcome make_ring r s
   make_done o t r' m q = rw (m, q) (done_by_law (is_makeable (length r)) refl o)

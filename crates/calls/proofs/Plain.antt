@@ -7,11 +7,9 @@ use borrow.Author.Tests.{eq-eqb, ne_eqb}
 use lib.ListN.{length, take, set}
 use Rattle.reason.specs.declared.Reason.TheVariants.{NodeZero, NoNumber, TooManyPins}
 use Rattle.layout.specs.Sizes.{number_limit}
-use Rattle.layout.specs.declared.Ring.{Ring}
 use Rattle.walk.specs.Walk.{readable}
 use Rattle.state.specs.declared.State.{State}
-use Rattle.state.specs.declared.Held.{Held}
-use Rattle.state.specs.Lists.{most_pins, with_next, with_pins}
+use Rattle.state.specs.Lists.{with_next, with_pins}
 use Rattle.state.specs.Pins.{mark_of, pin_place}
 use Rattle.state.specs.Asks.{cached_end, turn_of, ticket_done}
 use Rattle.state.proofs.PinTable.{place_none, place_some}
