@@ -8,10 +8,12 @@ use Rattle.walk.specs.declared.Entry.{Entry}
 use Rattle.state.specs.Lists.{filled}
 use Rattle.state.proofs.Loops.{fill_more}
 use Rattle.state.specs.Batch.{most_batch}
+use Rattle.std.specs.Prelude.{Option, Some, None}
 use Rattle.sheet.specs.declared.Piece.{Piece}
-use Rattle.sheet.specs.Sheet.{piece}
-use Rattle.sheet.specs.Places.{key_by, grow, in_order, total, no_piece, pieces_from, Batch, First, Ends}
-use Rattle.sheet.proofs.Growing.{At, turn, grown, first_none, at_first, at_next}
+use Rattle.sheet.specs.declared.Start.{Start}
+use Rattle.sheet.specs.Sheet.{piece, gather}
+use Rattle.sheet.specs.Places.{key_by, grow, in_order, total, no_piece, pieces_from, Batch, First, Ends, StartFrom}
+use Rattle.sheet.proofs.Growing.{Shut, skip_to, skip_shut, grown, grown_shut, start_shut}
 use Rattle.sheet.proofs.Few.{few_pieces}
 use Rattle.sheet.proofs.Storing.{total_append}
 
@@ -22,54 +24,53 @@ order_length (q ∷ qs) = length-append (in_order qs) (q ∷ []) ∙ let e = ord
 total_snoc : (qs : List Piece) (q : Piece) → total (qs ++ q ∷ []) ≡ total qs + q.size
 total_snoc qs q = total_append qs (q ∷ []) ∙ omega arith
 
-pub record Collected (c : ℕ → ℕ) (e : ℕ) (list : List Piece) (many size s : ℕ) : Type 0 where
-  pub at : At c e s
-  pub counted : many ≡ length (in_order (grow c s))
-  pub summed : size ≡ total (in_order (grow c s))
-  pub stored : list ≡ filled most_batch no_piece (in_order (grow c s))
-  pub within : size ≤ s
+-- what is listed are the pieces of the places below `at`, and a covered place from there on begins the next
+pub record Collected (c : ℕ → ℕ) (e : ℕ) (list : List Piece) (count size at : ℕ) : Type 0 where
+  pub most : at ≤ e
+  pub shut : Shut c at e
+  pub counted : count ≡ length (in_order (grow c at))
+  pub summed : size ≡ total (in_order (grow c at))
+  pub stored : list ≡ filled most_batch no_piece (in_order (grow c at))
+  pub within : size ≤ at
 
-pub collect_start : (c : ℕ → ℕ) (e s : ℕ) (list : List Piece) → list ≡ replicate most_batch no_piece → First c 0 e s → Collected c e list 0 0 s
-collect_start c e s list l f =
-    let z = first_none c e s f in
-    record {
-      at = at_first c e s f;
-      counted = sym (ap (λ qs. length (in_order qs)) z);
-      summed = sym (ap (λ qs. total (in_order qs)) z);
-      stored = l ∙ sym (ap (λ qs. filled most_batch no_piece (in_order qs)) z);
-      within = omega arith;
-    }
+pub collect_start : (c : ℕ → ℕ) (e : ℕ) (list : List Piece) → list ≡ replicate most_batch no_piece → Collected c e list 0 0 0
+unfolding gather
+collect_start c e list l = record { most = omega arith; shut = start_shut c e; counted = refl; summed = refl; stored = l; within = omega arith }
 
-module _ (es : List Entry) (n : ℕ) (b : Batch es n) (e : ℕ) (list : List Piece) (many size s : ℕ) (k : Collected (key_by es n) e list many size s) (h : s < e) where
+module _ (es : List Entry) (b : Batch es) (e : ℕ) (list : List Piece) (count size at : ℕ) (k : Collected (key_by es) e list count size at)
+    (s : ℕ) (h : s < e) (f : First (key_by es) at e s) (r : ℕ) (d : Ends (key_by es) s e r) where
+  abbrev c : ℕ → ℕ
+  c = key_by es
+
+  abbrev q : Piece
+  q = piece s (r - s) (c s)
+
+  one_more : grow c r ≡ q ∷ grow c at
+  one_more = grown c s e r (f.here h) (skip_shut c at e s k.shut f) d ∙ ap (◌∷◌ q) (skip_to c at s f.from f.bare)
+
   -- there is room for one piece more
-  pub collect_room : (r : ℕ) → Ends (key_by es n) s e r → many < most_batch
-  collect_room r d =
-      let g = grown (key_by es n) s e r (k.at.here h) k.at.shut d in
-      let f = few_pieces es n b.most r in
-      let l = ap length g in
-      let o = order_length (grow (key_by es n) s) in
-      omega (arith, k.counted, b.few)
+  pub collect_room : count < most_batch
+  collect_room =
+      let l = ap length one_more in
+      let o = order_length (grow c at) in
+      omega (arith, few_pieces es b.most r, k.counted, b.few)
 
-  pub collect_on : (r t : ℕ) → Ends (key_by es n) s e r → First (key_by es n) r e t → (key : ℕ) → key ≡ key_by es n s
-      → Collected (key_by es n) e (set list many (piece s (r - s) key)) (many + 1) (size + (r - s)) t
-  collect_on r t d f key x =
-      let c = key_by es n in
-      let g : grow c t ≡ piece s (r - s) (c s) ∷ grow c s = turn c s e r t (k.at.here h) k.at.shut d f in
-      let l = length-append (in_order (grow c s)) (piece s (r - s) (c s) ∷ []) in
+  pub collect_on : (key : ℕ) → key ≡ c s → Collected c e (set list count (piece s (r - s) key)) (count + 1) (size + (r - s)) r
+  collect_on key x =
+      let l = length-append (in_order (grow c at)) (q ∷ []) in
       record {
-        at = at_next c e s r t h k.at d f;
-        counted = rw g (omega (arith, k.counted, l));
-        summed = rw g (ap (◌+ (r - s)) k.summed ∙ sym (total_snoc (in_order (grow c s)) (piece s (r - s) (c s))));
+        most = d.most;
+        shut = grown_shut c s e r (f.here h) (skip_shut c at e s k.shut f) d;
+        counted = rw one_more (omega (arith, k.counted, l));
+        summed = rw one_more (ap (◌+ (r - s)) k.summed ∙ sym (total_snoc (in_order (grow c at)) q));
         stored =
-            ap (λ qs. set qs many (piece s (r - s) key)) k.stored ∙ ap (λ y. set (filled most_batch no_piece (in_order (grow c s))) many (piece s (r - s) y)) x
-            ∙ fill_more most_batch no_piece (in_order (grow c s)) many (piece s (r - s) (c s)) (sym k.counted) (collect_room r d)
-            ∙ sym (ap (λ qs. filled most_batch no_piece (in_order qs)) g);
+            ap (λ qs. set qs count (piece s (r - s) key)) k.stored ∙ ap (λ y. set (filled most_batch no_piece (in_order (grow c at))) count (piece s (r - s) y)) x
+            ∙ fill_more most_batch no_piece (in_order (grow c at)) count q (sym k.counted) collect_room
+            ∙ sym (ap (λ qs. filled most_batch no_piece (in_order qs)) one_more);
         within = omega (arith, k.within, d.after, f.from);
       }
 
-pub collect_end : (c : ℕ → ℕ) (e : ℕ) (list : List Piece) (many size s : ℕ) → Collected c e list many size s → e ≤ s
-    → record { count = many; size = size; list = list } ≡ pieces_from (in_order (grow c e))
-collect_end c e list many size s k h =
-    let m = k.at.most in
-    let z : s ≡ e = omega arith in
-    rw (← z) (rw (← k.stored, ← k.counted, ← k.summed) refl)
+pub collect_end : (c : ℕ → ℕ) (e : ℕ) (list : List Piece) (count size at : ℕ) → Collected c e list count size at
+    → (r : Option Start) → StartFrom c at e r → ((s : Start) → r ≡ Some s → ⊥) → record { count = count; size = size; list = list } ≡ pieces_from (in_order (grow c e))
+collect_end c e list count size at k None f n = rw (skip_to c at e f.from f.bare) (rw (← k.stored, ← k.counted, ← k.summed) refl)
+collect_end c e list count size at k (Some s) f n = absurd (n s refl)

@@ -7,15 +7,8 @@ use Rattle.sheet.specs.Places.{byte_by}
 use Rattle.sheet.proofs.Storing.{part_long, part_laid}
 use Rattle.sheet.proofs.put_part.Goals as goal
 
-pub put_piece-requires : goal.put_piece-requires
-put_piece-requires c = let a = c.args in
-    let k = c.requires in
-    let l = part_long a.at a.end a.buffer.now k.at_le_end.0 k.at_le_end.1 in
-    record { sized = k.sized; laid = k.laid; out_bound = rw l (k.at_le_end.2, k.at_le_end.3) }
-
 pub returns : goal.returns
 returns c = let a = c.args in
-    let k = c.requires in
-    let b = byte_by (round a.bytes.now a.n) a.entries a.count in
-    let l = part_long a.at a.end a.buffer.now k.at_le_end.0 k.at_le_end.1 in
-    part_laid a.at a.end a.buffer.now _ _ k.at_le_end.0 (bytes_length b a.start (a.end - a.at)) (c.put_piece.ensures ∙ ap (bytes_at b a.start) l)
+    let k = c.requires.at_le_end in
+    let b = byte_by (round a.bytes.now a.n) a.entries.now in
+    part_laid a.at a.end a.buffer.now _ _ k.0 (bytes_length b a.start (a.end - a.at)) (c.put_piece.ensures ∙ ap (bytes_at b a.start) (part_long a.at a.end a.buffer.now k.0 k.1))
