@@ -63,19 +63,14 @@ fn key_of(newest: Option<usize>) -> usize
 }
 
 // Whether a write covers a place.
+#[tactic(auto, unfolding(shore::specs::Cover::spans, layout::specs::Bytes::both))]
 fn is_over(entry: Entry, p: usize) -> bool
     requires { entry.offset + entry.length ≤ file_end }
     ensures { result ≡ overlies p entry }
 {
     let start = entry.offset as usize;
-    let size = entry.length as usize;
-    if p < start {
-        return false;
-    }
-    if start + size <= p {
-        return false;
-    }
-    true
+    let end = start + entry.length as usize;
+    start <= p && p < end
 }
 
 // A place after p, at most end, before which a write covers what it covers at p.
@@ -218,36 +213,6 @@ fn put_overlap(bytes: &[u8], n: usize, entry: Entry, start: usize, out: &mut [u8
     }
 }
 
-// The bytes of a piece: each write is painted over the older ones, so the newest is seen, and no place is searched for.
-fn put_piece(bytes: &[u8], n: usize, entries: &[Entry], start: usize, out: &mut [u8])
-    requires sized { Sized bytes.now n }
-    requires laid { Laid n entries.now }
-    requires out_bound { (start + length out.old ≤ file_end) × Covered entries.now start (length out.old) }
-    ensures { out.new ≡ bytes_at (byte_by (round bytes.now n) entries.now) start (length out.old) }
-{
-    for entry in entries {
-        put_overlap(bytes, n, *entry, start, out);
-    }
-}
-
-// The bytes of a piece, in the part of a buffer from `at` up to `end`.
-fn put_part(
-    bytes: &[u8],
-    n: usize,
-    entries: &[Entry],
-    start: usize,
-    buffer: &mut [u8],
-    at: usize,
-    end: usize,
-)
-    requires sized { Sized bytes.now n }
-    requires laid { Laid n entries.now }
-    requires at_le_end { (at ≤ end) × (end ≤ length buffer.old) × (start + (end - at) ≤ file_end) × Covered entries.now start (end - at) }
-    ensures { buffer.new ≡ laid_at buffer.old at (bytes_at (byte_by (round bytes.now n) entries.now) start (end - at)) }
-{
-    put_piece(bytes, n, entries, start, &mut buffer[at..end]);
-}
-
 // The offset and the length of each piece, behind the sheet's first 8 bytes.
 fn put_list(buffer: &mut [u8], list: &[Piece])
     requires { 8 + 8 * length list.now ≤ length buffer.old }
@@ -259,46 +224,58 @@ fn put_list(buffer: &mut [u8], list: &[Piece])
     }
 }
 
-// The bytes of all pieces, from `from` on.
-fn put_data(
-    bytes: &[u8],
+// What a sheet's bytes are taken from: the entries of a batch in number order, and the ring of n slots that has their bytes.
+#[derive(Clone, Copy)]
+struct Source<'a> {
+    bytes: &'a [u8],
     n: usize,
-    entries: &[Entry],
-    list: &[Piece],
-    buffer: &mut [u8],
-    from: usize,
-)
-    requires sized { Sized bytes.now n }
-    requires laid { Laid n entries.now }
-    requires covered { (from + total list.now ≤ length buffer.old) × AllCovered entries.now list.now }
-    ensures { buffer.new ≡ laid_at buffer.old from (data_by (byte_by (round bytes.now n) entries.now) list.now) }
-{
-    let mut at = from;
-    for piece in list {
-        let end = at + piece.size;
-        put_part(bytes, n, entries, piece.start, buffer, at, end);
-        at = end;
-    }
+    entries: &'a [Entry],
+    ghost sized: { Sized bytes.now n },
+    ghost laid: { Laid n entries.now },
 }
 
-// The whole sheet, in a buffer that is long enough.
-fn put_sheet(
-    bytes: &[u8],
-    n: usize,
-    entries: &[Entry],
-    node: u32,
-    list: &[Piece],
-    buffer: &mut [u8],
-)
-    requires sized { Sized bytes.now n }
-    requires laid { Laid n entries.now }
-    requires listed { (list.now ≡ in_order (grow (key_by entries.now) file_end)) × (8 + 8 * length list.now + total list.now ≤ length buffer.old) }
-    ensures { buffer.new ≡ laid_at buffer.old 0 (sheet_of node (map (write_of (round bytes.now n)) entries.now)) }
-{
-    put_number(buffer, 0, list.len());
-    put_number(buffer, 4, node as usize);
-    put_list(buffer, list);
-    put_data(bytes, n, entries, list, buffer, 8 + 8 * list.len());
+impl Source<'_> {
+    // The bytes of a piece: each write is painted over the older ones, so the newest is seen, and no place is searched for.
+    fn put_piece(&self, start: usize, out: &mut [u8])
+        requires { (start + length out.old ≤ file_end) × Covered self.now.entries.now start (length out.old) }
+        ensures { out.new ≡ bytes_at (byte_by (round self.now.bytes.now self.now.n) self.now.entries.now) start (length out.old) }
+    {
+        for entry in self.entries {
+            put_overlap(self.bytes, self.n, *entry, start, out);
+        }
+    }
+
+    // The bytes of a piece, in the part of a buffer from `at` up to `end`.
+    fn put_part(&self, start: usize, buffer: &mut [u8], at: usize, end: usize)
+        requires { (at ≤ end) × (end ≤ length buffer.old) × (start + (end - at) ≤ file_end) × Covered self.now.entries.now start (end - at) }
+        ensures { buffer.new ≡ laid_at buffer.old at (bytes_at (byte_by (round self.now.bytes.now self.now.n) self.now.entries.now) start (end - at)) }
+    {
+        self.put_piece(start, &mut buffer[at..end]);
+    }
+
+    // The bytes of all pieces, from `from` on.
+    fn put_data(&self, list: &[Piece], buffer: &mut [u8], from: usize)
+        requires { (from + total list.now ≤ length buffer.old) × AllCovered self.now.entries.now list.now }
+        ensures { buffer.new ≡ laid_at buffer.old from (data_by (byte_by (round self.now.bytes.now self.now.n) self.now.entries.now) list.now) }
+    {
+        let mut at = from;
+        for piece in list {
+            let end = at + piece.size;
+            self.put_part(piece.start, buffer, at, end);
+            at = end;
+        }
+    }
+
+    // The whole sheet, in a buffer that is long enough.
+    fn put_sheet(&self, node: u32, list: &[Piece], buffer: &mut [u8])
+        requires { (list.now ≡ in_order (grow (key_by self.now.entries.now) file_end)) × (8 + 8 * length list.now + total list.now ≤ length buffer.old) }
+        ensures { buffer.new ≡ laid_at buffer.old 0 (sheet_of node (map (write_of (round self.now.bytes.now self.now.n)) self.now.entries.now)) }
+    {
+        put_number(buffer, 0, list.len());
+        put_number(buffer, 4, node as usize);
+        put_list(buffer, list);
+        self.put_data(list, buffer, 8 + 8 * list.len());
+    }
 }
 
 // The sheet of a batch, written to the front of a buffer, and its length; or none where the buffer is too short for it and stays as it was.
@@ -320,6 +297,7 @@ pub fn make_sheet(
         return None;
     }
     let list = &pieces.list[..pieces.count];
-    put_sheet(bytes, n, entries, node, list, buffer);
+    let source = Source { bytes, n, entries };
+    source.put_sheet(node, list, buffer);
     Some(length)
 }

@@ -17,8 +17,8 @@ returns-then-buffer-length c = let a = c.args in
     let w = made_short (round a.bytes.now a.n) a.entries.now c.requires.laid.batch a.node _ (listed_as c.pieces_of-pieces.result _ c.pieces_of-pieces.ensures) a.buffer.now c.if-buffer-length.true in
     record { made = w.0; buffer = w.1 }
 
-pub put_sheet-requires-clause-listed : goal.put_sheet-requires-clause-listed
-put_sheet-requires-clause-listed c = let l = listed_as c.pieces_of-pieces.result _ c.pieces_of-pieces.ensures in
+pub put_sheet-requires : goal.put_sheet-requires
+put_sheet-requires c = let l = listed_as c.pieces_of-pieces.result _ c.pieces_of-pieces.ensures in
     let n = ap length l.front in
     let t = ap total l.front in
     let h = c.if-buffer-length.false in

@@ -1,7 +1,0 @@
--- `sheet::put_piece` meets its contract: `Painting`: of the writes so far, each byte that they cover is that of the newest.
-use Rattle.layout.specs.Bytes.{round}
-use Rattle.sheet.proofs.Painting.{Painting}
-use Rattle.sheet.proofs.put_piece.Given as goal
-
-abbrev pub invariant-loop-entry : goal.invariant-loop-entry
-invariant-loop-entry l = Painting (round l.bytes l.n) l.entries l.start l.initial.out l.out l.entry-index
