@@ -37,22 +37,6 @@ total_order : (qs : List Piece) → total (in_order qs) ≡ total qs
 total_order [] = refl
 total_order (q ∷ qs) = total_append (in_order qs) (q ∷ []) ∙ let e = total_order qs in omega arith
 
-module _ (es : List Entry) (x : Pieces) (l : ListedAs x (in_order (grow (key_by es) file_end))) where
-  pub pieces_few : Batch es → x.count ≤ most_batch
-  pieces_few b =
-      let f = few_pieces es b.most file_end in
-      let o = order_length (grow (key_by es) file_end) in
-      let c = l.count in
-      let m = b.few in
-      omega arith
-
-  pub pieces_small : x.size ≤ file_end
-  pieces_small =
-      let s = l.size in
-      let t = total_order (grow (key_by es) file_end) in
-      let g = grow_total (key_by es) file_end in
-      omega arith
-
 -- ---- four stores make a sheet
 
 pub laid_sheet : (d d₁ d₂ d₃ d₄ : List ℕ) (b : ℕ → ℕ) (node : ℕ) (qs : List Piece) → 8 + 8 * length qs + total qs ≤ length d
@@ -83,18 +67,18 @@ module _ (f : ℕ → ℕ) (es : List Entry) (b : Batch es) (node : ℕ) (x : Pi
   made_length =
       let s = sheet_length (byte_by f es) node (in_order (grow (key_by es) file_end)) in
       let w = ap length (sheet_writes f es b node) in
-      let c = l.count in
-      let z = l.size in
-      omega arith
+      omega (arith, l.count, l.size)
+
+  -- so its length fits a number
+  pub made_small : 8 + 8 * x.count + x.size ≤ 8 + 8 * most_batch + file_end
+  made_small =
+      let gs = grow (key_by es) file_end in
+      omega (arith, l.count, l.size, order_length gs, few_pieces es b.most file_end, b.few, total_order gs, grow_total (key_by es) file_end)
 
   module _ (d : List ℕ) where
     pub made_short : length d < 8 + 8 * x.count + x.size → (None ≡ made_from (length d) sheet) × (d ≡ laid_if d sheet)
-    made_short h =
-        let t = lt-ltb (length d) (length sheet) (let m = made_length in omega arith) in
-        (rw t refl, rw t refl)
+    made_short h = let t = lt-ltb (length d) (length sheet) (let m = made_length in omega arith) in (rw t refl, rw t refl)
 
     pub made_whole : (y : List ℕ) → 8 + 8 * x.count + x.size ≤ length d → y ≡ laid_at d 0 sheet
         → (Some (8 + 8 * x.count + x.size) ≡ made_from (length d) sheet) × (y ≡ laid_if d sheet)
-    made_whole y h e =
-        let t = le-ltb (length d) (length sheet) (let m = made_length in omega arith) in
-        (rw t (ap Some made_length), rw t e)
+    made_whole y h e = let t = le-ltb (length d) (length sheet) (let m = made_length in omega arith) in (rw t (ap Some made_length), rw t e)

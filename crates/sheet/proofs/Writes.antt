@@ -41,16 +41,16 @@ covers_extent : (p : ℕ) (ws : List Write) → any (overlies p) (map extent ws)
 covers_extent p [] = refl
 covers_extent p (w ∷ ws) = ap (pick (covers p w) true) (covers_extent p ws)
 
-key_pick : (t : Bool) (n : ℕ) (o : maybe.Option ℕ) → key_at (pick t (Some n) o) ≡ pick t 1 (key_at o)
-key_pick true n o = refl
-key_pick false n o = refl
+key_by_law : (t : Bool) (n : ℕ) (o : maybe.Option ℕ) → key_at (pick t (Some n) o) ≡ pick t 1 (key_at o)
+key_by_law true n o = refl
+key_by_law false n o = refl
 
 key_any : (p : ℕ) (es : List Entry) (n : ℕ) → n ≤ length es → key_at (top_of es n p) ≡ pick (any (overlies p) (take n es)) 1 0
 unfolding top_of
 key_any p es zero h = refl
 key_any p es (suc n) h =
     let e : Entry = get_or es n no_entry in
-    key_pick (overlies p e) n (top_of es n p) ∙ ap (pick (overlies p e) 1) (key_any p es n (omega arith)) ∙ at (any (overlies p) (take n es)) (overlies p e)
+    key_by_law (overlies p e) n (top_of es n p) ∙ ap (pick (overlies p e) 1) (key_any p es n (omega arith)) ∙ at (any (overlies p) (take n es)) (overlies p e)
     ∙ ap (λ b. pick b 1 0) (sym (any_append (overlies p) (take n es) (e ∷ []))) ∙ ap (λ xs. pick (any (overlies p) xs) 1 0) (sym (take-suc es n no_entry h))
   where
     at : (a b : Bool) → ◌≡◌ {A = ℕ} (pick b 1 (pick a 1 0)) (pick (pick a true (pick b true false)) 1 0)

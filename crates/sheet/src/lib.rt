@@ -89,61 +89,67 @@ fn nearer(entry: Entry, p: usize, end: usize) -> usize
     end
 }
 
-// The newest write that covers p, and how far it stays the newest, at most to end.
-fn find_at(entries: &[Entry], end: usize, p: usize) -> Found
-    requires batch { Batch entries.now }
-    requires p_lt_end { p < end }
-    ensures { FoundAt entries.now end p result }
-{
-    let mut newest = None;
-    let mut until = end;
-    for (i, entry) in entries.iter().enumerate() {
-        if is_over(*entry, p) {
-            newest = Some(i);
-        }
-        until = nearer(*entry, p, until);
-    }
-    Found { newest, until }
+// What walks over the places that a batch can cover: its entries, in number order.
+#[derive(Clone, Copy)]
+struct Walker<'a> {
+    entries: &'a [Entry],
+    ghost batch: { Batch entries.now },
 }
 
-// The first covered place from `at` on, if there is one before end.
-fn next_start(entries: &[Entry], end: usize, at: usize) -> Option<Start>
-    requires batch { Batch entries.now }
-    requires at_le_end { at ≤ end }
-    ensures { StartFrom (key_by entries.now) at end result }
-{
-    let mut place = at;
-    while place < end {
-        let found = find_at(entries, end, place);
-        let key = key_of(found.newest);
-        if 0 < key {
-            return Some(Start {
-                place,
-                key,
-                until: found.until,
-            });
+impl Walker<'_> {
+    // The newest write that covers p, and how far it stays the newest, at most to end.
+    fn find_at(&self, end: usize, p: usize) -> Found
+        requires p_lt_end { p < end }
+        ensures { FoundAt self.now.entries.now end p result }
+    {
+        let mut newest = None;
+        let mut until = end;
+        for (i, entry) in self.entries.iter().enumerate() {
+            if is_over(*entry, p) {
+                newest = Some(i);
+            }
+            until = nearer(*entry, p, until);
         }
-        place = found.until;
+        Found { newest, until }
     }
-    None
-}
 
-// Where the piece with that start ends. What the start knows already isn't searched for again.
-fn piece_end(entries: &[Entry], end: usize, start: Start) -> usize
-    requires batch { Batch entries.now }
-    requires place_lt_end { (start.place < end) × (end ≤ file_end) × StartAt (key_by entries.now) end start }
-    ensures { Ends (key_by entries.now) start.place end result }
-{
-    let last = end.min(start.place + PIECE);
-    let mut e = start.until.min(last);
-    while e < last {
-        let found = find_at(entries, last, e);
-        if key_of(found.newest) != start.key {
-            return e;
+    // The first covered place from `at` on, if there is one before end.
+    fn next_start(&self, end: usize, at: usize) -> Option<Start>
+        requires at_le_end { at ≤ end }
+        ensures { StartFrom (key_by self.now.entries.now) at end result }
+    {
+        let mut place = at;
+        while place < end {
+            let found = self.find_at(end, place);
+            let key = key_of(found.newest);
+            if 0 < key {
+                return Some(Start {
+                    place,
+                    key,
+                    until: found.until,
+                });
+            }
+            place = found.until;
         }
-        e = found.until;
+        None
     }
-    e
+
+    // Where the piece with that start ends. What the start knows already isn't searched for again.
+    fn piece_end(&self, end: usize, start: Start) -> usize
+        requires place_lt_end { (start.place < end) × (end ≤ file_end) × StartAt (key_by self.now.entries.now) end start }
+        ensures { Ends (key_by self.now.entries.now) start.place end result }
+    {
+        let last = end.min(start.place + PIECE);
+        let mut e = start.until.min(last);
+        while e < last {
+            let found = self.find_at(last, e);
+            if key_of(found.newest) != start.key {
+                return e;
+            }
+            e = found.until;
+        }
+        e
+    }
 }
 
 // The pieces of a batch's sheet, ascending.
@@ -152,12 +158,13 @@ pub fn pieces_of(entries: &[Entry]) -> Pieces
     ensures { result ≡ pieces_from (in_order (grow (key_by entries.now) file_end)) }
 {
     let end = Ring::FILE_END as usize;
+    let walk = Walker { entries };
     let mut list = [Piece::default(); BATCH];
     let mut count = 0;
     let mut size = 0;
     let mut at = 0;
-    while let Some(start) = next_start(entries, end, at) {
-        at = piece_end(entries, end, start);
+    while let Some(start) = walk.next_start(end, at) {
+        at = walk.piece_end(end, start);
         let bytes = at - start.place;
         list[count] = Piece {
             start: start.place,

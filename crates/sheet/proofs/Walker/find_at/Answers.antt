@@ -1,8 +1,8 @@
--- `sheet::find_at` meets its contract: the invariant: of the writes so far, the newest that covers the place (`top_of`), and a place up to which that stays so (`Steady`).
+-- `sheet::Walker::find_at` meets its contract: the invariant: of the writes so far, the newest that covers the place (`top_of`), and a place up to which that stays so (`Steady`).
 use mathlib.Core.Path.{sym, ◌∙◌}
 use Rattle.sheet.proofs.Walking.{top_none, top_over, top_under, steady_none, steady_more}
-use Rattle.sheet.proofs.find_at.Goals as goal
-use Rattle.sheet.proofs.find_at.Goals.{then-is_over, else-is_over}
+use Rattle.sheet.proofs.Walker.find_at.Goals as goal
+use Rattle.sheet.proofs.Walker.find_at.Goals.{then-is_over, else-is_over}
 
 pub loop-i-init : goal.loop-i-init
 loop-i-init c = record { newest = top_none _ _; until = steady_none _ _ _ c.requires.p_lt_end }
