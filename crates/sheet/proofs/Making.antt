@@ -4,8 +4,7 @@ use native.Mathlib.Omega.{arith}
 use mathlib.Core.Path.{◌≡◌, refl, ap, ◌∙◌}
 use mathlib.Core.List.{List, [], ◌∷◌, ◌++◌, map, append_assoc}
 use borrow.Author.Tests.{lt-ltb, le-ltb}
-use lib.ListN.{length, take, length-append}
-use lib.Seq.{take_at}
+use lib.ListN.{length, length-append}
 use Rattle.layout.specs.Sizes.{file_end}
 use Rattle.layout.specs.Bytes.{bytes4}
 use Rattle.walk.specs.declared.Entry.{Entry}
@@ -24,14 +23,6 @@ use Rattle.sheet.proofs.Reading.{sheet_length}
 use Rattle.sheet.proofs.Batches.{sheet_writes}
 
 -- ---- the code's list of pieces
-
-pub record ListedAs (x : Pieces) (qs : List Piece) : Type 0 where
-  pub front : take x.count x.list ≡ qs
-  pub count : x.count ≡ length qs
-  pub size : x.size ≡ total qs
-
-pub listed_as : (x : Pieces) (qs : List Piece) → x ≡ pieces_from qs → ListedAs x qs
-listed_as x qs e = rw e (record { front = take_at qs _ (length qs) refl; count = refl; size = refl })
 
 total_order : (qs : List Piece) → total (in_order qs) ≡ total qs
 total_order [] = refl
@@ -59,26 +50,26 @@ laid_sheet d d₁ d₂ d₃ d₄ b node qs h e₁ e₂ e₃ e₄ =
 
 -- ---- the answer
 
-module _ (f : ℕ → ℕ) (es : List Entry) (b : Batch es) (node : ℕ) (x : Pieces) (l : ListedAs x (in_order (grow (key_by es) file_end))) where
+module _ (f : ℕ → ℕ) (es : List Entry) (b : Batch es) (node : ℕ) (x : Pieces) (count : ℕ) (l : x ≡ pieces_from (in_order (grow (key_by es) file_end))) (c : count ≡ length x.list.items) where
   abbrev sheet : List ℕ
   sheet = sheet_of node (map (write_of f) es)
 
-  pub made_length : 8 + 8 * x.count + x.size ≡ length sheet
+  pub made_length : 8 + 8 * count + x.size ≡ length sheet
   made_length =
       let s = sheet_length (byte_by f es) node (in_order (grow (key_by es) file_end)) in
       let w = ap length (sheet_writes f es b node) in
-      omega (arith, l.count, l.size)
+      rw (c, l) (omega arith)
 
   -- so its length fits a number
-  pub made_small : 8 + 8 * x.count + x.size ≤ 8 + 8 * most_batch + file_end
+  pub made_small : 8 + 8 * count + x.size ≤ 8 + 8 * most_batch + file_end
   made_small =
       let gs = grow (key_by es) file_end in
-      omega (arith, l.count, l.size, order_length gs, few_pieces es b.most file_end, b.few, total_order gs, grow_total (key_by es) file_end)
+      rw (c, l) (omega (arith, order_length gs, few_pieces es b.most file_end, b.few, total_order gs, grow_total (key_by es) file_end))
 
   module _ (d : List ℕ) where
-    pub made_short : length d < 8 + 8 * x.count + x.size → (None ≡ made_from (length d) sheet) × (d ≡ laid_if d sheet)
+    pub made_short : length d < 8 + 8 * count + x.size → (None ≡ made_from (length d) sheet) × (d ≡ laid_if d sheet)
     made_short h = let t = lt-ltb (length d) (length sheet) (let m = made_length in omega arith) in (rw t refl, rw t refl)
 
-    pub made_whole : (y : List ℕ) → 8 + 8 * x.count + x.size ≤ length d → y ≡ laid_at d 0 sheet
-        → (Some (8 + 8 * x.count + x.size) ≡ made_from (length d) sheet) × (y ≡ laid_if d sheet)
+    pub made_whole : (y : List ℕ) → 8 + 8 * count + x.size ≤ length d → y ≡ laid_at d 0 sheet
+        → (Some (8 + 8 * count + x.size) ≡ made_from (length d) sheet) × (y ≡ laid_if d sheet)
     made_whole y h e = let t = le-ltb (length d) (length sheet) (let m = made_length in omega arith) in (rw t (ap Some made_length), rw t e)

@@ -5,7 +5,7 @@ use Rattle.layout.specs.Sizes.{file_end, largest}
 use Rattle.walk.specs.declared.Entry.{Entry}
 use Rattle.walk.specs.Entry.{data_of}
 use Rattle.walk.specs.Walk.{no_entry}
-use Rattle.state.specs.Lists.{pick, filled}
+use Rattle.state.specs.Lists.{pick}
 use Rattle.state.specs.Batch.{most_batch}
 use Rattle.shore.specs.Cover.{spans}
 use Rattle.sheet.specs.declared.Piece.{Piece}
@@ -120,9 +120,9 @@ pub record Ends (key : ℕ → ℕ) (s e r : ℕ) : Type 0 where
   pub fits : r ≤ s + piece_size
   pub bare : r < s + piece_size → r < e → key r ≡ key s → ⊥
 
--- the code's list of pieces: as many as there are, with their bytes counted, and nothing behind them
+-- the code's list of pieces, with their bytes counted
 abbrev pub pieces_from : List Piece → Pieces
-pieces_from qs = record { count = length qs; size = total qs; list = filled most_batch no_piece qs }
+pieces_from qs = record { size = total qs; list = record { items = qs } }
 
 -- the sheet laid in the front of a buffer that is long enough
 abbrev pub laid_if : List ℕ → List ℕ → List ℕ

@@ -11,6 +11,7 @@ ghost use Rattle.shore.specs.Cover.{spans};
 ghost use Rattle.sheet.specs.Sheet.{list_of, data_by, sheet_of, laid_at};
 ghost use Rattle.sheet.specs.Places.{Batch, Laid, Covered, AllCovered, byte_by, Painted, total, Steady, Ends, FoundAt, StartAt, StartFrom, key_at, key_by, overlies, grow, in_order, pieces_from, laid_if, made_from};
 
+use arrayvec::ArrayVec;
 use layout::Ring;
 use walk::Entry;
 
@@ -28,13 +29,12 @@ pub struct Piece {
     pub key: usize,
 }
 
-// There is no heap, so the list has room for the most pieces, and `count` says how many are there.
-#[derive(Clone, Copy)]
+// The pieces of a sheet, ascending, in room for as many as a batch can have: there is no heap.
+#[derive(Drop)]
 pub struct Pieces {
-    pub count: usize,
     // The bytes of all of them.
     pub size: usize,
-    pub list: [Piece; BATCH],
+    pub list: ArrayVec<Piece, BATCH>,
 }
 
 // The newest write that covers a place, if one does; and a place up to which that stays so.
@@ -159,22 +159,20 @@ pub fn pieces_of(entries: &[Entry]) -> Pieces
 {
     let end = Ring::FILE_END as usize;
     let walk = Walker { entries };
-    let mut list = [Piece::default(); BATCH];
-    let mut count = 0;
+    let mut list = ArrayVec::new();
     let mut size = 0;
     let mut at = 0;
     while let Some(start) = walk.next_start(end, at) {
         at = walk.piece_end(end, start);
         let bytes = at - start.place;
-        list[count] = Piece {
+        list.push(Piece {
             start: start.place,
             size: bytes,
             key: start.key,
-        };
-        count += 1;
+        });
         size += bytes;
     }
-    Pieces { count, size, list }
+    Pieces { size, list }
 }
 
 // A number as 4 bytes of the buffer.
@@ -299,12 +297,11 @@ pub fn make_sheet(
     ensures buffer { buffer.new ≡ laid_if buffer.old (sheet_of node (map (write_of (round bytes.now n)) entries.now)) }
 {
     let pieces = pieces_of(entries);
-    let length = 8 + 8 * pieces.count + pieces.size;
+    let length = 8 + 8 * pieces.list.len() + pieces.size;
     if buffer.len() < length {
         return None;
     }
-    let list = &pieces.list[..pieces.count];
     let source = Source { bytes, n, entries };
-    source.put_sheet(node, list, buffer);
+    source.put_sheet(node, &pieces.list, buffer);
     Some(length)
 }

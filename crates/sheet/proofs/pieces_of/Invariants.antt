@@ -5,7 +5,7 @@ use Rattle.sheet.proofs.Collecting.{Collected}
 use Rattle.sheet.proofs.pieces_of.Given as goal
 
 abbrev pub invariant-loop-start : goal.invariant-loop-start
-invariant-loop-start l = Collected (key_by l.entries) l.end l.list l.count l.size l.at
+invariant-loop-start l = Collected (key_by l.entries) l.end l.list.items l.size l.at
 
 abbrev pub decreases-loop-start : goal.decreases-loop-start
 decreases-loop-start l = l.end - l.at
