@@ -6,6 +6,8 @@ use mathlib.Core.Bool.{Bool, true, false}
 use mathlib.Core.Logic.{◌⊎◌, inl, inr}
 use mathlib.Core.List.{List, ◌++◌}
 use lib.ListN.{length, get_or, take, drop, length-append, length-drop, get_or-append}
+use borrow.Rule.Slice.PartMut.{put_mid}
+use Rattle.sheet.proofs.Storing.{part_back, part_long}
 use lib.Seq.{ext_get_or, get_or-take, get_or-drop, get_or-append-add, length-take-le}
 use Rattle.layout.specs.Sizes.{slot_size, head_size}
 use Rattle.layout.specs.Bytes.{bytes_at}
@@ -93,8 +95,10 @@ module _ (f : ℕ → ℕ) (e : Entry) (start : ℕ) (d : List ℕ) where
         length-take-le (b - a) (drop (from - e.offset) (data_of f e))
         (rw (length-drop (from - e.offset) (data_of f e), bytes_length f (e.slot * slot_size + head_size) e.length, size) room)
 
-    pub paint_span : (new : List ℕ) → new ≡ take a d ++ m ++ drop b d → Painted f e start d new
-    paint_span new z = record { same = ap length z ∙ span_long d m a b low high long; each = λ k l. ap (λ q. get_or q k 0) z ∙ at k l (lt_or_le k a) (lt_or_le k b) }
+    pub paint_span : (part : List ℕ) → part ≡ take (length (take (b - a) (drop a d))) (drop (from - e.offset) (data_of f e)) → Painted f e start d (put_mid a (b - a) d part)
+    paint_span part p =
+        let z = part_back a b d part m low (p ∙ ap (λ n. take n (drop (from - e.offset) (data_of f e))) (part_long a b d low high)) in
+        record { same = ap length z ∙ span_long d m a b low high long; each = λ k l. ap (λ q. get_or q k 0) z ∙ at k l (lt_or_le k a) (lt_or_le k b) }
       where
         at : (k : ℕ) → k < length d → (k < a) ⊎ (a ≤ k) → (k < b) ⊎ (b ≤ k)
             → get_or (take a d ++ m ++ drop b d) k 0 ≡ pick (overlies (start + k) e) (get_or (data_of f e) (start + k - e.offset) 0) (get_or d k 0)

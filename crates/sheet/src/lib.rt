@@ -2,9 +2,8 @@
 // There is no sort and no heap: a walk over the places where the newest write can change finds the pieces; the writes are then painted into them, oldest first.
 #![tactic(auto)]
 
-ghost use Rattle.std.specs.Prelude.{◌≡◌, ◌++◌, map, ◌+◌, ◌-◌, ◌*◌, ◌≤◌, ◌<◌, length, take, drop};
+ghost use Rattle.std.specs.Prelude.{◌≡◌, map, ◌+◌, ◌-◌, ◌*◌, ◌≤◌, ◌<◌, length};
 ghost use Rattle.layout.specs.Sizes.{file_end, largest};
-ghost use Rattle.walk.specs.Entry.{data_of};
 ghost use Rattle.walk.specs.Walk.{write_of};
 ghost use Rattle.layout.specs.Bytes.{Sized, bytes4, bytes_at, round};
 ghost use Rattle.shore.specs.Cover.{spans};
@@ -52,7 +51,7 @@ struct Start {
     until: usize,
 }
 
-// The key of a place: 0 where no write covers it.
+// The key of a place: 0 where no write covers it. It stays a number, since what a piece is on paper (`gather`, `Piece.key`) is said of any keys.
 fn key_of(newest: Option<usize>) -> usize
     ensures { result ≡ key_at newest }
 {
@@ -90,6 +89,7 @@ fn nearer(entry: Entry, p: usize, end: usize) -> usize
 }
 
 // What walks over the places that a batch can cover: its entries, in number order.
+// A step goes from a place to the end of what was found there, so its loops count nothing.
 #[derive(Clone, Copy)]
 struct Walker<'a> {
     entries: &'a [Entry],
@@ -183,24 +183,6 @@ fn put_number(buffer: &mut [u8], at: usize, x: usize)
     buffer[at..at + 4].copy_from_slice(&x.to_le_bytes()[..4]);
 }
 
-// Copies a write's bytes from byte `from` on into the part of a buffer from `start` up to `end`.
-fn put_span(
-    bytes: &[u8],
-    n: usize,
-    entry: Entry,
-    from: usize,
-    out: &mut [u8],
-    start: usize,
-    end: usize,
-)
-    requires sized { Sized bytes.now n }
-    requires slot_lt_n { (entry.slot < n) × (entry.length ≤ largest) × (from + (end - start) ≤ entry.length) }
-    requires start_le_end { (start ≤ end) × (end ≤ length out.old) }
-    ensures { out.new ≡ take start out.old ++ take (end - start) (drop from (data_of (round bytes.now n) entry)) ++ drop end out.old }
-{
-    walk::entry_bytes(bytes, n, entry, from, &mut out[start..end]);
-}
-
 // Paints a write over the places from `start` on: those that it covers get its bytes, the others stay.
 fn put_overlap(bytes: &[u8], n: usize, entry: Entry, start: usize, out: &mut [u8])
     requires sized { Sized bytes.now n }
@@ -214,7 +196,7 @@ fn put_overlap(bytes: &[u8], n: usize, entry: Entry, start: usize, out: &mut [u8
     let until = high.min(start + out.len());
     if from < until {
         let skip = from - low;
-        put_span(bytes, n, entry, skip, out, from - start, until - start);
+        walk::entry_bytes(bytes, n, entry, skip, &mut out[from - start..until - start]);
     }
 }
 
