@@ -3,7 +3,8 @@ use Prim.Native.Nat.{ℕ, ◌+◌, ◌-◌, ◌≤◌, ◌<◌}
 use native.Mathlib.Omega.{arith}
 use mathlib.Core.Path.{◌≡◌, refl, sym, ap, ◌∙◌}
 use mathlib.Core.List.{List, [], ◌∷◌, ◌++◌}
-use lib.ListN.{length, length-append}
+use lib.ListN.{length}
+use Rattle.std.proofs.lemmas.List.{length-reverse, reverse-append}
 use Rattle.walk.specs.declared.Entry.{Entry}
 use Rattle.state.specs.Batch.{most_batch}
 use Rattle.std.specs.Prelude.{Option, Some, None}
@@ -14,10 +15,6 @@ use Rattle.sheet.specs.Places.{key_by, grow, in_order, total, pieces_from, Batch
 use Rattle.sheet.proofs.Growing.{Shut, skip_to, skip_shut, grown, grown_shut, start_shut}
 use Rattle.sheet.proofs.Few.{few_pieces}
 use Rattle.sheet.proofs.Storing.{total_append}
-
-pub order_length : (qs : List Piece) → length (in_order qs) ≡ length qs
-order_length [] = refl
-order_length (q ∷ qs) = length-append (in_order qs) (q ∷ []) ∙ let e = order_length qs in omega arith
 
 total_snoc : (qs : List Piece) (q : Piece) → total (qs ++ q ∷ []) ≡ total qs + q.size
 total_snoc qs q = total_append qs (q ∷ []) ∙ omega arith
@@ -49,7 +46,7 @@ module _ (es : List Entry) (b : Batch es) (e : ℕ) (list : List Piece) (size at
   pub collect_room : length list < most_batch
   collect_room =
       let l = ap length one_more in
-      let o = ap length k.listed ∙ order_length (grow c at) in
+      let o = ap length k.listed ∙ length-reverse (grow c at) in
       omega (arith, few_pieces es b.most r, b.few)
 
   pub collect_on : (list' : List Piece) (key : ℕ) → list' ≡ list ++ piece s (r - s) key ∷ [] → key ≡ c s → Collected c e list' (size + (r - s)) r
@@ -58,7 +55,7 @@ module _ (es : List Entry) (b : Batch es) (e : ℕ) (list : List Piece) (size at
       record {
         most = d.most;
         shut = grown_shut c s e r (f.here h) (skip_shut c at e s k.shut f) d;
-        listed = l ∙ ap (λ y. list ++ piece s (r - s) y ∷ []) x ∙ ap (◌++ q ∷ []) k.listed ∙ sym (ap in_order one_more);
+        listed = l ∙ ap (λ y. list ++ piece s (r - s) y ∷ []) x ∙ ap (◌++ q ∷ []) k.listed ∙ sym (ap in_order one_more ∙ reverse-append (q ∷ []) (grow c at));
         summed = rw l (omega (arith, k.summed));
         within = omega (arith, k.within, d.after, f.from);
       }

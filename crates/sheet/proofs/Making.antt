@@ -16,7 +16,7 @@ use Rattle.std.specs.Prelude.{Some, None}
 use Rattle.sheet.specs.Sheet.{list_of, data_by, sheet_by, sheet_of, laid_at}
 use Rattle.sheet.specs.Places.{key_by, byte_by, grow, in_order, total, pieces_from, laid_if, made_from, Batch}
 use Rattle.sheet.proofs.Few.{few_pieces}
-use Rattle.sheet.proofs.Collecting.{order_length}
+use Rattle.std.proofs.lemmas.List.{length-reverse, reverse-append}
 use Rattle.sheet.proofs.Covered.{grow_total}
 use Rattle.sheet.proofs.Storing.{laid_then, four_long, list_long, total_append}
 use Rattle.sheet.proofs.Reading.{sheet_length}
@@ -26,7 +26,7 @@ use Rattle.sheet.proofs.Batches.{sheet_writes}
 
 total_order : (qs : List Piece) → total (in_order qs) ≡ total qs
 total_order [] = refl
-total_order (q ∷ qs) = total_append (in_order qs) (q ∷ []) ∙ let e = total_order qs in omega arith
+total_order (q ∷ qs) = ap total (reverse-append (q ∷ []) qs) ∙ total_append (in_order qs) (q ∷ []) ∙ let e = total_order qs in omega arith
 
 -- ---- four stores make a sheet
 
@@ -64,7 +64,7 @@ module _ (f : ℕ → ℕ) (es : List Entry) (b : Batch es) (node : ℕ) (x : Pi
   pub made_small : 8 + 8 * count + x.size ≤ 8 + 8 * most_batch + file_end
   made_small =
       let gs = grow (key_by es) file_end in
-      rw (c, l) (omega (arith, order_length gs, few_pieces es b.most file_end, b.few, total_order gs, grow_total (key_by es) file_end))
+      rw (c, l) (omega (arith, length-reverse gs, few_pieces es b.most file_end, b.few, total_order gs, grow_total (key_by es) file_end))
 
   module _ (d : List ℕ) where
     pub made_short : length d < 8 + 8 * count + x.size → (None ≡ made_from (length d) sheet) × (d ≡ laid_if d sheet)

@@ -1,13 +1,13 @@
 -- Laws of storing in a buffer: in two parts, byte by byte, and as a part that was lent on.
 use Prim.Native.Nat.{ℕ, ◌+◌, ◌-◌, ◌*◌, ◌/◌, ◌%◌, ◌≤◌, ◌<◌}
 use native.Mathlib.Nat.{add-zero, zero-add}
-use native.Mathlib.Numerals.{add-one}
 use native.Mathlib.Omega.{arith}
 use mathlib.Core.Path.{◌≡◌, refl, sym, ap, ◌∙◌}
 use mathlib.Core.List.{List, [], ◌∷◌, ◌++◌, append_assoc, append-nil}
 use lib.ListN.{length, get_or, take, drop, length-append, length-take, length-drop, take-append-drop}
-use lib.Seq.{take_at, take-suc, length-take-le, drop-drop, drop-append-add}
+use lib.Seq.{take_at, length-take-le, drop-drop, drop-append-add}
 use borrow.Rule.Slice.PartMut.{put_mid}
+use Rattle.std.proofs.lemmas.List.{take_more}
 use Rattle.std.specs.Int.{w64, to_le_bytes}
 use Rattle.std.proofs.Math.Nat.{div-div-eq-div-mul}
 use Rattle.layout.specs.Bytes.{bytes2, bytes4, bytes_at}
@@ -90,9 +90,6 @@ unfolding data_by
 data_long b [] = refl
 data_long b (q ∷ qs) = simp (length-append, bytes_length b q.start q.size, data_long b qs)
 
-taken : (list : List Piece) (k : ℕ) → k < length list → take (k + 1) list ≡ take k list ++ get_or list k no_piece ∷ []
-taken list k h = rw add-one (take-suc list k no_piece h)
-
 pub total_append : (qs rs : List Piece) → total (qs ++ rs) ≡ total qs + total rs
 total_append [] rs = omega arith
 total_append (q ∷ qs) rs = let e = total_append qs rs in omega arith
@@ -111,7 +108,7 @@ module _ (d : List ℕ) (list : List Piece) (k : ℕ) (h : k < length list) wher
       let s = length-append (list_of (take k list)) (bytes4 q.start) in
       f ∙ ap (λ z. laid_at z (12 + 8 * k) (bytes4 q.size)) (e ∙ laid_then d 8 (8 + 8 * k) (list_of (take k list)) (bytes4 q.start) (omega arith) (omega arith))
       ∙ laid_then d 8 (12 + 8 * k) (list_of (take k list) ++ bytes4 q.start) (bytes4 q.size) (omega arith) (omega arith)
-      ∙ ap (laid_at d 8) (append_assoc (list_of (take k list)) (bytes4 q.start) (bytes4 q.size) ∙ sym (list_snoc (take k list) q) ∙ ap list_of (sym (taken list k h)))
+      ∙ ap (laid_at d 8) (append_assoc (list_of (take k list)) (bytes4 q.start) (bytes4 q.size) ∙ sym (list_snoc (take k list) q) ∙ ap list_of (sym (take_more list k no_piece h)))
 
   -- the bytes: a piece more
   pub data_more : (b : ℕ → ℕ) (from at : ℕ) (y : List ℕ) → at ≡ from + total (take k list) → at ≤ length d
@@ -119,10 +116,10 @@ module _ (d : List ℕ) (list : List Piece) (k : ℕ) (h : k < length list) wher
   data_more b from at y e m f =
       let l = data_long b (take k list) in
       f ∙ laid_then d from at (data_by b (take k list)) (bytes_at b q.start q.size) (omega arith) m
-      ∙ ap (laid_at d from) (sym (data_snoc b (take k list) q) ∙ ap (data_by b) (sym (taken list k h)))
+      ∙ ap (laid_at d from) (sym (data_snoc b (take k list) q) ∙ ap (data_by b) (sym (take_more list k no_piece h)))
 
   pub total_more : total (take (k + 1) list) ≡ total (take k list) + q.size
-  total_more = ap total (taken list k h) ∙ total_append (take k list) (q ∷ []) ∙ omega arith
+  total_more = ap total (take_more list k no_piece h) ∙ total_append (take k list) (q ∷ []) ∙ omega arith
 
 pub part_laid : (a e : ℕ) (d ys zs : List ℕ) → a ≤ e → length zs ≡ e - a → ys ≡ zs → put_mid a (e - a) d ys ≡ laid_at d a zs
 unfolding laid_at

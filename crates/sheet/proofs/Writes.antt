@@ -23,13 +23,13 @@ use Rattle.sheet.specs.Places.{overlies, top_of, key_at, key_by, is_short, grow,
 use Rattle.sheet.proofs.Growing.{gather_same}
 use Rattle.sheet.proofs.Right.{AreThose, right}
 use Rattle.sheet.proofs.Few.{few_pieces}
-use Rattle.sheet.proofs.Cutting.{pieces_grown, order_twice}
-use Rattle.sheet.proofs.Collecting.{order_length}
+use Rattle.sheet.proofs.Cutting.{pieces_grown}
+use Rattle.std.proofs.lemmas.List.{length-reverse, reverse-reverse}
 use Rattle.sheet.proofs.Covered.{key_is}
 
 -- the pieces, taken from the last one back: each is the last of the places that are left, none could have gone on into the next
 pub pieces_right : (ws : List Write) → AreThose (key_of ws) (end_of ws) (in_order (pieces_of ws))
-pieces_right ws = rw (pieces_grown ws, order_twice (grow (key_of ws) (end_of ws))) (right (key_of ws) (end_of ws))
+pieces_right ws = rw (pieces_grown ws, reverse-reverse (grow (key_of ws) (end_of ws))) (right (key_of ws) (end_of ws))
 
 -- ---- never more pieces than writes
 
@@ -78,5 +78,5 @@ module _ (ws : List Write) where
   pieces_few o =
       let g : grow (key_of ws) (end_of ws) ≡ grow (key_by es) (end_of ws) = gather_same is_short (key_of ws) (key_by es) (end_of ws) (λ q _. same_key q) in
       let f = few_pieces es (short_at ws o) (end_of ws) in
-      let l = ap length (pieces_grown ws) ∙ order_length (grow (key_of ws) (end_of ws)) ∙ ap length g in
+      let l = ap length (pieces_grown ws) ∙ length-reverse (grow (key_of ws) (end_of ws)) ∙ ap length g in
       omega (arith, length-map ws extent)

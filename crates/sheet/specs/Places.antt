@@ -1,6 +1,6 @@
 -- What the code's walk over places finds: the newest write at a place, how far it stays the same, where a piece begins and ends.
 -- Document 01, "Moves", paragraph "Sheet".
-use Rattle.std.specs.Prelude.{ℕ, zero, suc, ◌+◌, ◌-◌, ◌≤◌, ◌<◌, ◌≡◌, Bool, List, [], ◌∷◌, ◌++◌, length, get_or, ltb, Option, None, Some, MatchOption}
+use Rattle.std.specs.Prelude.{ℕ, zero, suc, ◌+◌, ◌-◌, ◌≤◌, ◌<◌, ◌≡◌, Bool, List, [], ◌∷◌, length, get_or, reverse, ltb, Option, None, Some, MatchOption}
 use Rattle.layout.specs.Sizes.{file_end, largest}
 use Rattle.walk.specs.declared.Entry.{Entry}
 use Rattle.walk.specs.Entry.{data_of}
@@ -39,8 +39,7 @@ grow key p = gather is_short key p
 
 -- ascending
 abbrev pub in_order : List Piece → List Piece
-in_order [] = []
-in_order (q ∷ qs) = in_order qs ++ q ∷ []
+in_order qs = reverse qs
 
 -- how many bytes the pieces have
 abbrev pub total : List Piece → ℕ
