@@ -3,73 +3,64 @@ use Prim.Native.Nat.{ℕ, ◌+◌, ◌-◌, ◌≤◌, ◌<◌}
 use native.Mathlib.Omega.{arith}
 use mathlib.Core.Path.{◌≡◌, refl, sym, ap, ◌∙◌}
 use mathlib.Core.List.{List, [], ◌∷◌, ◌++◌}
-use lib.ListN.{length, replicate, set, length-append}
+use lib.ListN.{length}
+use Rattle.std.proofs.lemmas.List.{length-reverse, reverse-append}
 use Rattle.walk.specs.declared.Entry.{Entry}
-use Rattle.state.specs.Lists.{filled}
-use Rattle.state.proofs.Loops.{fill_more}
 use Rattle.state.specs.Batch.{most_batch}
+use Rattle.std.specs.Prelude.{Option, Some, None}
 use Rattle.sheet.specs.declared.Piece.{Piece}
-use Rattle.sheet.specs.Sheet.{piece}
-use Rattle.sheet.specs.Places.{key_by, grow, in_order, total, no_piece, pieces_from, Batch, First, Ends}
-use Rattle.sheet.proofs.Growing.{At, turn, grown, first_none, at_first, at_next}
+use Rattle.sheet.specs.declared.Start.{Start}
+use Rattle.sheet.specs.Sheet.{piece, gather}
+use Rattle.sheet.specs.Places.{key_by, grow, in_order, total, pieces_from, Batch, First, Ends, StartFrom}
+use Rattle.sheet.proofs.Growing.{Shut, skip_to, skip_shut, grown, grown_shut, start_shut}
 use Rattle.sheet.proofs.Few.{few_pieces}
 use Rattle.sheet.proofs.Storing.{total_append}
-
-pub order_length : (qs : List Piece) → length (in_order qs) ≡ length qs
-order_length [] = refl
-order_length (q ∷ qs) = length-append (in_order qs) (q ∷ []) ∙ let e = order_length qs in omega arith
 
 total_snoc : (qs : List Piece) (q : Piece) → total (qs ++ q ∷ []) ≡ total qs + q.size
 total_snoc qs q = total_append qs (q ∷ []) ∙ omega arith
 
-pub record Collected (c : ℕ → ℕ) (e : ℕ) (list : List Piece) (many size s : ℕ) : Type 0 where
-  pub at : At c e s
-  pub counted : many ≡ length (in_order (grow c s))
-  pub summed : size ≡ total (in_order (grow c s))
-  pub stored : list ≡ filled most_batch no_piece (in_order (grow c s))
-  pub within : size ≤ s
+-- what is listed are the pieces of the places below `at`, and a covered place from there on begins the next
+pub record Collected (c : ℕ → ℕ) (e : ℕ) (list : List Piece) (size at : ℕ) : Type 0 where
+  pub most : at ≤ e
+  pub shut : Shut c at e
+  pub listed : list ≡ in_order (grow c at)
+  pub summed : size ≡ total list
+  pub within : size ≤ at
 
-pub collect_start : (c : ℕ → ℕ) (e s : ℕ) (list : List Piece) → list ≡ replicate most_batch no_piece → First c 0 e s → Collected c e list 0 0 s
-collect_start c e s list l f =
-    let z = first_none c e s f in
-    record {
-      at = at_first c e s f;
-      counted = sym (ap (λ qs. length (in_order qs)) z);
-      summed = sym (ap (λ qs. total (in_order qs)) z);
-      stored = l ∙ sym (ap (λ qs. filled most_batch no_piece (in_order qs)) z);
-      within = omega arith;
-    }
+pub collect_start : (c : ℕ → ℕ) (e : ℕ) (list : List Piece) → list ≡ [] → Collected c e list 0 0
+unfolding gather
+collect_start c e list l = record { most = omega arith; shut = start_shut c e; listed = l; summed = rw l refl; within = omega arith }
 
-module _ (es : List Entry) (n : ℕ) (b : Batch es n) (e : ℕ) (list : List Piece) (many size s : ℕ) (k : Collected (key_by es n) e list many size s) (h : s < e) where
+module _ (es : List Entry) (b : Batch es) (e : ℕ) (list : List Piece) (size at : ℕ) (k : Collected (key_by es) e list size at)
+    (s : ℕ) (h : s < e) (f : First (key_by es) at e s) (r : ℕ) (d : Ends (key_by es) s e r) where
+  abbrev c : ℕ → ℕ
+  c = key_by es
+
+  abbrev q : Piece
+  q = piece s (r - s) (c s)
+
+  one_more : grow c r ≡ q ∷ grow c at
+  one_more = grown c s e r (f.here h) (skip_shut c at e s k.shut f) d ∙ ap (◌∷◌ q) (skip_to c at s f.from f.bare)
+
   -- there is room for one piece more
-  pub collect_room : (r : ℕ) → Ends (key_by es n) s e r → many < most_batch
-  collect_room r d =
-      let g = grown (key_by es n) s e r (k.at.here h) k.at.shut d in
-      let f = few_pieces es n b.most r in
-      let l = ap length g in
-      let o = order_length (grow (key_by es n) s) in
-      omega (arith, k.counted, b.few)
+  pub collect_room : length list < most_batch
+  collect_room =
+      let l = ap length one_more in
+      let o = ap length k.listed ∙ length-reverse (grow c at) in
+      omega (arith, few_pieces es b.most r, b.few)
 
-  pub collect_on : (r t : ℕ) → Ends (key_by es n) s e r → First (key_by es n) r e t → (key : ℕ) → key ≡ key_by es n s
-      → Collected (key_by es n) e (set list many (piece s (r - s) key)) (many + 1) (size + (r - s)) t
-  collect_on r t d f key x =
-      let c = key_by es n in
-      let g : grow c t ≡ piece s (r - s) (c s) ∷ grow c s = turn c s e r t (k.at.here h) k.at.shut d f in
-      let l = length-append (in_order (grow c s)) (piece s (r - s) (c s) ∷ []) in
+  pub collect_on : (list' : List Piece) (key : ℕ) → list' ≡ list ++ piece s (r - s) key ∷ [] → key ≡ c s → Collected c e list' (size + (r - s)) r
+  collect_on list' key l x =
+      let t = total_snoc list (piece s (r - s) key) in
       record {
-        at = at_next c e s r t h k.at d f;
-        counted = rw g (omega (arith, k.counted, l));
-        summed = rw g (ap (◌+ (r - s)) k.summed ∙ sym (total_snoc (in_order (grow c s)) (piece s (r - s) (c s))));
-        stored =
-            ap (λ qs. set qs many (piece s (r - s) key)) k.stored ∙ ap (λ y. set (filled most_batch no_piece (in_order (grow c s))) many (piece s (r - s) y)) x
-            ∙ fill_more most_batch no_piece (in_order (grow c s)) many (piece s (r - s) (c s)) (sym k.counted) (collect_room r d)
-            ∙ sym (ap (λ qs. filled most_batch no_piece (in_order qs)) g);
+        most = d.most;
+        shut = grown_shut c s e r (f.here h) (skip_shut c at e s k.shut f) d;
+        listed = l ∙ ap (λ y. list ++ piece s (r - s) y ∷ []) x ∙ ap (◌++ q ∷ []) k.listed ∙ sym (ap in_order one_more ∙ reverse-append (q ∷ []) (grow c at));
+        summed = rw l (omega (arith, k.summed));
         within = omega (arith, k.within, d.after, f.from);
       }
 
-pub collect_end : (c : ℕ → ℕ) (e : ℕ) (list : List Piece) (many size s : ℕ) → Collected c e list many size s → e ≤ s
-    → record { count = many; size = size; list = list } ≡ pieces_from (in_order (grow c e))
-collect_end c e list many size s k h =
-    let m = k.at.most in
-    let z : s ≡ e = omega arith in
-    rw (← z) (rw (← k.stored, ← k.counted, ← k.summed) refl)
+pub collect_end : (c : ℕ → ℕ) (e : ℕ) (list : List Piece) (size at : ℕ) → Collected c e list size at
+    → (r : Option Start) → StartFrom c at e r → ((s : Start) → r ≡ Some s → ⊥) → record { size = size; list = record { items = list } } ≡ pieces_from (in_order (grow c e))
+collect_end c e list size at k None f n = rw (skip_to c at e f.from f.bare, ← k.listed, ← k.summed) refl
+collect_end c e list size at k (Some s) f n = absurd (n s refl)

@@ -15,17 +15,13 @@ use Rattle.state.specs.Lists.{pick}
 use Rattle.state.proofs.Bools.{no_both, both_no}
 use Rattle.sheet.specs.declared.Piece.{Piece}
 use Rattle.sheet.specs.Sheet.{piece_size, piece, key_of, end_of, goes_on, join, gather, always, runs, cut_in, cut_all, pieces_of}
+use Rattle.std.proofs.lemmas.List.{reverse-append, reverse-reverse}
 use Rattle.sheet.specs.Places.{is_short, grow, in_order}
 
 -- ---- a list turned round
 
-pub order_snoc : (qs : List Piece) (q : Piece) → in_order (qs ++ q ∷ []) ≡ q ∷ in_order qs
-order_snoc [] q = refl
-order_snoc (r ∷ qs) q = ap (λ (l : List Piece). l ++ r ∷ []) (order_snoc qs q)
-
-pub order_twice : (qs : List Piece) → in_order (in_order qs) ≡ qs
-order_twice [] = refl
-order_twice (q ∷ qs) = order_snoc (in_order qs) q ∙ ap (λ (l : List Piece). q ∷ l) (order_twice qs)
+order_snoc : (qs : List Piece) (q : Piece) → in_order (qs ++ q ∷ []) ≡ q ∷ in_order qs
+order_snoc qs q = reverse-append qs (q ∷ [])
 
 -- ---- a run cut, and the run with one byte more
 
@@ -211,7 +207,7 @@ grown_cut key zero = refl
 grown_cut key (suc p) = ap (join is_short (key p) p) (grown_cut key p) ∙ join_cut (key p) p (runs key p) (runs_some key p)
 
 pub cut_grown : (key : ℕ → ℕ) (p : ℕ) → cut_all (runs key p) ≡ in_order (grow key p)
-cut_grown key p = sym (order_twice (cut_all (runs key p))) ∙ ap in_order (sym (grown_cut key p))
+cut_grown key p = sym (reverse-reverse (cut_all (runs key p))) ∙ ap in_order (sym (grown_cut key p))
 
 pub pieces_grown : (ws : List Write) → pieces_of ws ≡ in_order (grow (key_of ws) (end_of ws))
 unfolding pieces_of

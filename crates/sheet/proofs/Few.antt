@@ -1,5 +1,5 @@
 -- There are never more pieces than writes: each piece has a write that covers its start and begins behind the start of the piece before.
-use Prim.Native.Nat.{ℕ, zero, suc, ◌+◌, ◌-◌, ◌≤◌, ◌<◌}
+use Prim.Native.Nat.{ℕ, zero, suc, ◌+◌, ◌≤◌, ◌<◌}
 use native.Mathlib.Nat.{eq-or-lt_of_le}
 use native.Mathlib.Omega.{arith}
 use mathlib.Core.Path.{◌≡◌, refl, subst}
@@ -9,6 +9,7 @@ use mathlib.Core.List.{List, [], ◌∷◌}
 use borrow.Author.Tests.{ltb-true, eq-eqb, lt-ltb, le-ltb}
 use lib.ListN.{length, get_or}
 use lib.Dec.{ltb}
+use Rattle.std.specs.Prelude.{Option, Some}
 use Rattle.layout.specs.Sizes.{largest}
 use Rattle.layout.specs.Bytes.{both}
 use Rattle.layout.proofs.Tests.{never, true_not_false, lt_or_le}
@@ -74,74 +75,65 @@ pub record Hit (es : List Entry) (n p : ℕ) : Type 0 where
   pub high : p < (get_or es i no_entry).offset + (get_or es i no_entry).length
 
 module _ (es : List Entry) (p : ℕ) where
-  top_by : (n : ℕ) (b : Bool) → overlies p (get_or es n no_entry) ≡ b → (0 < top_of es n p → (top_of es n p ≤ n) × (overlies p (get_or es (top_of es n p - 1) no_entry) ≡ true))
-      → 0 < pick b (suc n) (top_of es n p) → (pick b (suc n) (top_of es n p) ≤ suc n) × (overlies p (get_or es (pick b (suc n) (top_of es n p) - 1) no_entry) ≡ true)
-  top_by n true e k h = let d : suc n - 1 ≡ n = omega arith in (omega arith, rw d e)
-  top_by n false e k h = let z = k h in (omega (arith, z.0), z.1)
+  hit_more : (n : ℕ) → Hit es n p → Hit es (suc n) p
+  hit_more n w = record { i = w.i; is = omega (arith, w.is); low = w.low; high = w.high }
+
+  hit_by : (n : ℕ) (b : Bool) → overlies p (get_or es n no_entry) ≡ b → (0 < key_at (top_of es n p) → Hit es n p) → 0 < key_at (pick b (Some n) (top_of es n p)) → Hit es (suc n) p
+  hit_by n true e k h = let s = spans_out _ _ p e in record { i = n; is = omega arith; low = s.0; high = s.1 }
+  hit_by n false e k h = hit_more n (k h)
 
   -- the newest that was found covers the place
-  top_covers : (n : ℕ) → 0 < top_of es n p → (top_of es n p ≤ n) × (overlies p (get_or es (top_of es n p - 1) no_entry) ≡ true)
+  top_hit : (n : ℕ) → 0 < key_at (top_of es n p) → Hit es n p
   unfolding top_of
-  top_covers zero h = absurd (let k : 0 < 0 = h in omega arith)
-  top_covers (suc n) h = top_by n (overlies p (get_or es n no_entry)) refl (top_covers n) h
+  top_hit zero h = absurd (let k : 0 < 0 = h in omega arith)
+  top_hit (suc n) h = hit_by n (overlies p (get_or es n no_entry)) refl (top_hit n) h
 
-  pick_some : (b : Bool) (n m : ℕ) → 0 < m → 0 < pick b (suc n) m
-  pick_some true n m h = omega arith
-  pick_some false n m h = h
+  pick_one : (b : Bool) (n : ℕ) (o : Option ℕ) → key_at o ≡ 1 → key_at (pick b (Some n) o) ≡ 1
+  pick_one true n o e = refl
+  pick_one false n o e = e
 
   -- where one covers the place, one is found
-  pub covers_top : (n i : ℕ) → i < n → overlies p (get_or es i no_entry) ≡ true → 0 < top_of es n p
+  hit_top : (n i : ℕ) → i < n → overlies p (get_or es i no_entry) ≡ true → key_at (top_of es n p) ≡ 1
   unfolding top_of
-  covers_top zero i h e = absurd (let k : i < 0 = h in omega arith)
-  covers_top (suc n) i h e =
-      ⊎_elim (λ x. let y : overlies p (get_or es n no_entry) ≡ true = subst (λ m. overlies p (get_or es m no_entry) ≡ true) x e in rw y (omega arith))
-      (λ x. pick_some (overlies p (get_or es n no_entry)) n (top_of es n p) (covers_top n i x e))
+  hit_top zero i h e = absurd (let k : i < 0 = h in omega arith)
+  hit_top (suc n) i h e =
+      ⊎_elim (λ x. let y : overlies p (get_or es n no_entry) ≡ true = subst (λ m. overlies p (get_or es m no_entry) ≡ true) x e in rw y refl)
+      (λ x. pick_one (overlies p (get_or es n no_entry)) n (top_of es n p) (hit_top n i x e))
       (eq-or-lt_of_le (let k : i ≤ n = omega arith in k))
 
-pub key_some : (k : ℕ) → 0 < k → key_at k ≡ 1
-unfolding key_at
-key_some zero h = absurd (let k : 0 < 0 = h in omega arith)
-key_some (suc k) h = refl
+module _ (es : List Entry) (short : (i : ℕ) → i < length es → (get_or es i no_entry).length ≤ largest) where
+  abbrev n : ℕ
+  n = length es
 
-pub some_key : (k : ℕ) → 0 < key_at k → 0 < k
-unfolding key_at
-some_key zero h = h
-some_key (suc k) h = omega arith
+  hit : (p : ℕ) → 0 < key_by es p → Hit es n p
+  hit p h = top_hit es p n h
 
-module _ (es : List Entry) (n : ℕ) (short : (i : ℕ) → i < n → (get_or es i no_entry).length ≤ largest) where
-  hit : (p : ℕ) → 0 < key_by es n p → Hit es n p
-  hit p h =
-      let k : 0 < top_of es n p = some_key (top_of es n p) h in
-      let z = top_covers es p n k in
-      let s = spans_out _ _ p z.1 in
-      record { i = top_of es n p - 1; is = omega (arith, z.0); low = s.0; high = s.1 }
-
-  hold : (p : ℕ) → Hit es n p → key_by es n p ≡ 1
-  hold p w = key_some (top_of es n p) (covers_top es p n w.i w.is (spans_in _ _ p w.low w.high))
+  hold : (p : ℕ) → Hit es n p → key_by es p ≡ 1
+  hold p w = hit_top es p n w.i w.is (spans_in _ _ p w.low w.high)
 
   -- the write that covers a piece's start begins behind the start of the piece before
-  apart : (q r : Piece) (e : ℕ) → Last (key_by es n) e q → Last (key_by es n) q.start r → goes_on is_short r q.start q.key ≡ false
+  apart : (q r : Piece) (e : ℕ) → Last (key_by es) e q → Last (key_by es) q.start r → goes_on is_short r q.start q.key ≡ false
       → (w : Hit es n q.start) → r.start < (get_or es w.i no_entry).offset
   unfolding goes_on both
   apart q r e tq tr j w = ⊎_elim (λ x. x) (λ x. absurd (⊎_elim (touch x) (gap x) (eq-or-lt_of_le tr.ends))) (lt_or_le r.start (get_or es w.i no_entry).offset)
     where
       gap : (get_or es w.i no_entry).offset ≤ r.start → r.start + r.size < q.start → ⊥
       gap x y =
-          let z : key_by es n (r.start + r.size) ≡ 0 = tr.bare (r.start + r.size) (omega arith) y in
-          let v : key_by es n (r.start + r.size) ≡ 1 = hold (r.start + r.size) (record { i = w.i; is = w.is; low = omega arith; high = omega (arith, w.high) }) in
+          let z : key_by es (r.start + r.size) ≡ 0 = tr.bare (r.start + r.size) (omega arith) y in
+          let v : key_by es (r.start + r.size) ≡ 1 = hold (r.start + r.size) (record { i = w.i; is = w.is; low = omega arith; high = omega (arith, w.high) }) in
           omega arith
 
       touch : (get_or es w.i no_entry).offset ≤ r.start → r.start + r.size ≡ q.start → ⊥
       touch x y =
           let m : r.size < piece_size = omega (arith, w.high, short w.i w.is) in
-          let kq : key_by es n q.start ≡ 1 = hold q.start w in
-          let kq1 : key_by es n q.start ≡ q.key = tq.held q.start (omega arith) (omega (arith, tq.some)) in
-          let kr : key_by es n r.start ≡ 1 = hold r.start (record { i = w.i; is = w.is; low = x; high = omega (arith, w.high, tr.some) }) in
-          let kr1 : key_by es n r.start ≡ r.key = tr.held r.start (omega arith) (omega (arith, tr.some)) in
+          let kq : key_by es q.start ≡ 1 = hold q.start w in
+          let kq1 : key_by es q.start ≡ q.key = tq.held q.start (omega arith) (omega (arith, tq.some)) in
+          let kr : key_by es r.start ≡ 1 = hold r.start (record { i = w.i; is = w.is; low = x; high = omega (arith, w.high, tr.some) }) in
+          let kr1 : key_by es r.start ≡ r.key = tr.held r.start (omega arith) (omega (arith, tr.some)) in
           let same : r.key ≡ q.key = omega arith in
           true_not_false (goes_on is_short r q.start q.key) (rw (eq-eqb (r.start + r.size) q.start y, lt-ltb r.size piece_size m, eq-eqb r.key q.key same)) j
 
-  few_below : (q : Piece) (qs : List Piece) (e : ℕ) → AreThose (key_by es n) e (q ∷ qs) → length (q ∷ qs) ≤ below es n (q.start + 1)
+  few_below : (q : Piece) (qs : List Piece) (e : ℕ) → AreThose (key_by es) e (q ∷ qs) → length (q ∷ qs) ≤ below es n (q.start + 1)
   few_below q [] e g =
       let w : Hit es n q.start = hit q.start (omega (arith, g.0.held q.start (omega arith) (omega (arith, g.0.some)), g.0.keyed)) in
       omega (arith, below_more es n w.i 0 (q.start + 1) w.is (omega arith) (omega (arith, w.low)))
@@ -150,9 +142,9 @@ module _ (es : List Entry) (n : ℕ) (short : (i : ℕ) → i < n → (get_or es
       let a = apart q r e g.0 g.2.0 g.1 w in
       omega (arith, few_below r qs q.start g.2, below_more es n w.i (r.start + 1) (q.start + 1) w.is (omega arith) (omega (arith, w.low)))
 
-  few_of : (qs : List Piece) (e : ℕ) → AreThose (key_by es n) e qs → length qs ≤ n
+  few_of : (qs : List Piece) (e : ℕ) → AreThose (key_by es) e qs → length qs ≤ n
   few_of [] e g = omega arith
   few_of (q ∷ qs) e g = omega (arith, few_below q qs e g, below_most es n (q.start + 1))
 
-  pub few_pieces : (e : ℕ) → length (grow (key_by es n) e) ≤ n
-  few_pieces e = few_of (grow (key_by es n) e) e (right (key_by es n) e)
+  pub few_pieces : (e : ℕ) → length (grow (key_by es) e) ≤ n
+  few_pieces e = few_of (grow (key_by es) e) e (right (key_by es) e)

@@ -6,7 +6,7 @@ use native.Mathlib.Omega.{arith}
 use mathlib.Core.Path.{◌≡◌, refl, sym, ap, ◌∙◌}
 use mathlib.Core.Bool.{Bool, false}
 use mathlib.Core.Logic.{⊎_elim}
-use mathlib.Core.List.{[], ◌∷◌}
+use mathlib.Core.List.{◌∷◌}
 use borrow.Author.Tests.{eq-eqb, ne_eqb, lt-ltb, le-ltb}
 use lib.Dec.{eqb, ltb}
 use Rattle.layout.specs.Bytes.{both}
@@ -71,15 +71,16 @@ module _ (c : ℕ → ℕ) where
       ∙ more s e (c s - 1) (r - s - 1) (omega (arith, n.fits)) (omega (arith, n.most)) (λ q x w. n.held q x (omega arith) ∙ keyed (c s) y) z
       ∙ ap (λ l. piece s l (suc (c s - 1)) ∷ grow c s) b ∙ ap (λ k. piece s (r - s) k ∷ grow c s) (sym (keyed (c s) y))
 
-  -- ---- a turn of the pass: from the piece at s to the next
+  -- ---- a turn of the pass: from behind a piece past bare places to the next, and through it
 
-  pub turn : (s e r t : ℕ) → 0 < c s → Shut s e → Ends c s e r → First c r e t → grow c t ≡ piece s (r - s) (c s) ∷ grow c s
-  turn s e r t y z n f = skip_to r t f.from f.bare ∙ grown s e r y z n
+  pub skip_shut : (a e t : ℕ) → Shut a e → First c a e t → Shut t e
+  unfolding Shut
+  skip_shut a e t z f p k h m x = rw (skip_to a t f.from f.bare) (z p k (omega (arith, f.from)) m x)
 
-  turn_shut : (s e r t : ℕ) → 0 < c s → Shut s e → Ends c s e r → First c r e t → Shut t e
+  pub grown_shut : (s e r : ℕ) → 0 < c s → Shut s e → Ends c s e r → Shut r e
   unfolding Shut goes_on
-  turn_shut s e r t y z n f p h tp pe cp =
-      let g : grow c t ≡ piece s (r - s) (c s) ∷ grow c s = turn s e r t y z n f in
+  grown_shut s e r y z n p h rp pe cp =
+      let g : grow c r ≡ piece s (r - s) (c s) ∷ grow c s = grown s e r y z n in
       let full : r ≡ s + piece_size → both (eqb (s + (r - s)) p) (both (ltb (r - s) piece_size) (eqb (c s) (suc h))) ≡ false =
       λ x. ap (λ b. both (eqb (s + (r - s)) p) (both b (eqb (c s) (suc h)))) (le-ltb (r - s) piece_size (omega arith))
       ∙ ap (both (eqb (s + (r - s)) p)) (no_both (eqb (c s) (suc h))) ∙ both_no (eqb (s + (r - s)) p) in
@@ -89,24 +90,11 @@ module _ (c : ℕ → ℕ) where
       λ x u. ap (λ b. both (eqb (s + (r - s)) p) (both (ltb (r - s) piece_size) b))
       (ne_eqb (c s) (suc h) (λ w. n.bare x (omega arith) (ap c u ∙ cp ∙ sym w)))
       ∙ ap (both (eqb (s + (r - s)) p)) (both_no (ltb (r - s) piece_size)) ∙ both_no (eqb (s + (r - s)) p) in
-      let rp : r ≤ p = omega (arith, f.from) in
       rw g (ap (λ b. pick b (piece s (r - s + 1) (c s) ∷ grow c s) (piece p 1 (suc h) ∷ piece s (r - s) (c s) ∷ grow c s))
       (⊎_elim full (λ x. ⊎_elim (other x) away (eq-or-lt_of_le rp)) (eq-or-lt_of_le n.fits)))
 
-  -- ---- where the pass stands: at a covered place, or at the end
+  -- ---- where the pass begins
 
-  pub record At (e s : ℕ) : Type 0 where
-    pub most : s ≤ e
-    pub here : s < e → 0 < c s
-    pub shut : Shut s e
-
-  pub first_none : (e t : ℕ) → First c 0 e t → grow c t ≡ []
-  unfolding gather
-  first_none e t f = skip_to 0 t f.from f.bare
-
-  pub at_first : (e t : ℕ) → First c 0 e t → At e t
-  unfolding Shut
-  at_first e t f = record { most = f.most; here = f.here; shut = λ p k x y z. rw (first_none e t f) refl }
-
-  pub at_next : (e s r t : ℕ) → s < e → At e s → Ends c s e r → First c r e t → At e t
-  at_next e s r t h a n f = record { most = f.most; here = f.here; shut = turn_shut s e r t (a.here h) a.shut n f }
+  pub start_shut : (e : ℕ) → Shut 0 e
+  unfolding Shut gather
+  start_shut e p k x y z = refl

@@ -26,7 +26,7 @@ use Rattle.sheet.specs.Sheet.{byte_of, key_of, end_of, pieces_of, sheet_by, shee
 use Rattle.sheet.specs.Places.{grow, in_order}
 use Rattle.sheet.proofs.Right.{AreThose, right}
 use Rattle.sheet.proofs.Cutting.{pieces_grown}
-use Rattle.sheet.proofs.Collecting.{order_length}
+use Rattle.std.proofs.lemmas.List.{length-reverse, reverse-append}
 use Rattle.sheet.proofs.Covered.{ends_by, end_within, grow_few, covered_key, bare_key, covered_below}
 use Rattle.sheet.proofs.Reading.{word_end, Fits, puts_for, read_node, read_back}
 
@@ -110,7 +110,7 @@ those_fit key e (q ∷ qs) g h =
 
 order_any : (p : Piece → Bool) (qs : List Piece) → any p (in_order qs) ≡ any p qs
 order_any p [] = refl
-order_any p (q ∷ qs) = any_append p (in_order qs) (q ∷ []) ∙ ap (λ (t : Bool). pick t true (any p (q ∷ []))) (order_any p qs) ∙ at (p q) (any p qs)
+order_any p (q ∷ qs) = ap (any p) (reverse-append (q ∷ []) qs) ∙ any_append p (in_order qs) (q ∷ []) ∙ ap (λ (t : Bool). pick t true (any p (q ∷ []))) (order_any p qs) ∙ at (p q) (any p qs)
   where
     at : (t u : Bool) → pick u true (pick t true false) ≡ pick t true u
     at true true = refl
@@ -124,7 +124,7 @@ each_snoc P (r ∷ qs) q o k = (o.0, each_snoc P qs q o.1 k)
 
 pub order_each : (P : Piece → Type 0) (qs : List Piece) → Each P qs → Each P (in_order qs)
 order_each P [] o = tt
-order_each P (q ∷ qs) o = each_snoc P (in_order qs) q (order_each P qs o.1) o.0
+order_each P (q ∷ qs) o = rw (reverse-append (q ∷ []) qs) (each_snoc P (in_order qs) q (order_each P qs o.1) o.0)
 
 -- ---- the sheet of a batch
 
@@ -146,7 +146,7 @@ module _ (ws : List Write) where
     sheet_puts =
         let gs = grow (key_of ws) (end_of ws) in
         ap (λ (qs : List Piece). puts_in (sheet_by (byte_of ws) node qs ++ tail)) (pieces_grown ws)
-        ∙ read_back (byte_of ws) node (in_order gs) tail (omega (arith, order_length gs, grow_few (key_of ws) (end_of ws), ends))
+        ∙ read_back (byte_of ws) node (in_order gs) tail (omega (arith, length-reverse gs, grow_few (key_of ws) (end_of ws), ends))
         (order_each Fits gs (those_fit (key_of ws) (end_of ws) gs (right (key_of ws) (end_of ws)) ends))
 
     pub sheet_touches : (i : ℕ) → touches i (puts_in (sheet_of node ws ++ tail)) ≡ any (covers i) ws

@@ -6,6 +6,8 @@ use mathlib.Core.Bool.{Bool, true, false}
 use mathlib.Core.Logic.{◌⊎◌, inl, inr}
 use mathlib.Core.List.{List, ◌++◌}
 use lib.ListN.{length, get_or, take, drop, length-append, length-drop, get_or-append}
+use borrow.Rule.Slice.PartMut.{put_mid}
+use Rattle.sheet.proofs.Storing.{part_back, part_long}
 use lib.Seq.{ext_get_or, get_or-take, get_or-drop, get_or-append-add, length-take-le}
 use Rattle.layout.specs.Sizes.{slot_size, head_size}
 use Rattle.layout.specs.Bytes.{bytes_at}
@@ -16,7 +18,7 @@ use Rattle.walk.specs.Entry.{data_of}
 use Rattle.walk.specs.Walk.{no_entry}
 use Rattle.state.specs.Lists.{pick}
 use Rattle.shore.proofs.Covering.{spans_in, spans_before, spans_after}
-use Rattle.sheet.specs.Places.{overlies, top_of, byte_by, Covered, Painted}
+use Rattle.sheet.specs.Places.{overlies, top_of, key_at, byte_from, byte_by, Covered, Painted}
 use Rattle.sheet.proofs.Walking.{top_over, top_under}
 
 -- ---- one write
@@ -93,8 +95,10 @@ module _ (f : ℕ → ℕ) (e : Entry) (start : ℕ) (d : List ℕ) where
         length-take-le (b - a) (drop (from - e.offset) (data_of f e))
         (rw (length-drop (from - e.offset) (data_of f e), bytes_length f (e.slot * slot_size + head_size) e.length, size) room)
 
-    pub paint_span : (new : List ℕ) → new ≡ take a d ++ m ++ drop b d → Painted f e start d new
-    paint_span new z = record { same = ap length z ∙ span_long d m a b low high long; each = λ k l. ap (λ q. get_or q k 0) z ∙ at k l (lt_or_le k a) (lt_or_le k b) }
+    pub paint_span : (part : List ℕ) → part ≡ take (length (take (b - a) (drop a d))) (drop (from - e.offset) (data_of f e)) → Painted f e start d (put_mid a (b - a) d part)
+    paint_span part p =
+        let z = part_back a b d part m low (p ∙ ap (λ n. take n (drop (from - e.offset) (data_of f e))) (part_long a b d low high)) in
+        record { same = ap length z ∙ span_long d m a b low high long; each = λ k l. ap (λ q. get_or q k 0) z ∙ at k l (lt_or_le k a) (lt_or_le k b) }
       where
         at : (k : ℕ) → k < length d → (k < a) ⊎ (a ≤ k) → (k < b) ⊎ (b ≤ k)
             → get_or (take a d ++ m ++ drop b d) k 0 ≡ pick (overlies (start + k) e) (get_or (data_of f e) (start + k - e.offset) 0) (get_or d k 0)
@@ -105,47 +109,37 @@ module _ (f : ℕ → ℕ) (e : Entry) (start : ℕ) (d : List ℕ) where
             ∙ get_or-drop (from - e.offset) (data_of f e) (k - a) 0 ∙ ap (λ i. get_or (data_of f e) i 0) (there e.offset start from k (omega arith) (omega arith) o))
         at k l (inr o) (inr p) = rw (spans_after e.offset e.length (start + k) (omega arith)) (span_after d m a b low high long k p)
 
--- ---- the first i of n writes, one over the other: each byte that they cover is that of the newest
+-- ---- the first i writes, one over the other: each byte that they cover is that of the newest
 
-pub record Painting (f : ℕ → ℕ) (es : List Entry) (n start : ℕ) (out₀ out : List ℕ) (i : ℕ) : Type 0 where
-  pub upto : i ≤ n
+pub record Painting (f : ℕ → ℕ) (es : List Entry) (start : ℕ) (out₀ out : List ℕ) (i : ℕ) : Type 0 where
   pub same : length out ≡ length out₀
-  pub each : (k : ℕ) → k < length out₀ → 0 < top_of es i (start + k) → get_or out k 0 ≡ byte_by f es i (start + k)
+  pub each : (k : ℕ) → k < length out₀ → 0 < key_at (top_of es i (start + k)) → get_or out k 0 ≡ byte_from f es (start + k) (top_of es i (start + k))
 
-module _ (f : ℕ → ℕ) (es : List Entry) where
-  byte_top : (n p m : ℕ) → top_of es n p ≡ m → byte_by f es n p ≡ get_or (data_of f (get_or es (m - 1) no_entry)) (p - (get_or es (m - 1) no_entry).offset) 0
-  unfolding byte_by
-  byte_top n p m e = rw e
+module _ (f : ℕ → ℕ) (es : List Entry) (start : ℕ) (out₀ : List ℕ) where
+  pub paint_start : Painting f es start out₀ out₀ 0
+  unfolding top_of
+  paint_start = record { same = refl; each = λ k h t. absurd (let z : 0 < 0 = t in omega arith) }
 
-  module _ (n start : ℕ) (out₀ : List ℕ) where
-    pub paint_start : Painting f es n start out₀ out₀ 0
-    unfolding top_of
-    paint_start = record { upto = omega arith; same = refl; each = λ k h t. absurd (let z : 0 < 0 = t in omega arith) }
+  module _ (out : List ℕ) (i : ℕ) (o : Painting f es start out₀ out i) where
+    pub paint_on : (new : List ℕ) → Painted f (get_or es i no_entry) start out new → Painting f es start out₀ new (i + 1)
+    paint_on new p =
+        record {
+          same = p.same ∙ o.same;
+          each = λ k h t. p.each k (omega (arith, o.same)) ∙ at k h (overlies (start + k) (get_or es i no_entry)) refl t;
+        }
+      where
+        at : (k : ℕ) → k < length out₀ → (b : Bool) → overlies (start + k) (get_or es i no_entry) ≡ b → 0 < key_at (top_of es (i + 1) (start + k))
+            → pick b (get_or (data_of f (get_or es i no_entry)) (start + k - (get_or es i no_entry).offset) 0) (get_or out k 0)
+            ≡ byte_from f es (start + k) (top_of es (i + 1) (start + k))
+        at k h true e t = ap (byte_from f es (start + k)) (top_over es i (start + k) e)
+        at k h false e t = let z = top_under es i (start + k) e in o.each k h (rw z t) ∙ ap (byte_from f es (start + k)) z
 
-    module _ (out : List ℕ) (i : ℕ) (o : Painting f es n start out₀ out i) where
-      pub paint_on : (new : List ℕ) → i < n → Painted f (get_or es i no_entry) start out new → Painting f es n start out₀ new (i + 1)
-      paint_on new l p =
-          record {
-            upto = omega arith;
-            same = p.same ∙ o.same;
-            each = λ k h t. p.each k (omega (arith, o.same)) ∙ at k h (overlies (start + k) (get_or es i no_entry)) refl t;
-          }
-        where
-          at : (k : ℕ) → k < length out₀ → (b : Bool) → overlies (start + k) (get_or es i no_entry) ≡ b → 0 < top_of es (i + 1) (start + k)
-              → pick b (get_or (data_of f (get_or es i no_entry)) (start + k - (get_or es i no_entry).offset) 0) (get_or out k 0) ≡ byte_by f es (i + 1) (start + k)
-          at k h true e t =
-              let z : i + 1 - 1 ≡ i = omega arith in
-              sym (rw z at (byte_top (i + 1) (start + k) (i + 1) (sym (top_over es i (start + k) e))))
-          at k h false e t =
-              let z = top_under es i (start + k) e in
-              o.each k h (omega arith) ∙ byte_top i (start + k) (top_of es (i + 1) (start + k)) z ∙ sym (byte_top (i + 1) (start + k) (top_of es (i + 1) (start + k)) refl)
-
-      -- every place of a piece is covered
-      pub paint_done : Covered es n start (length out₀) → n ≤ i → out ≡ bytes_at (byte_by f es n) start (length out₀)
-      paint_done c l =
-          let z : i ≡ n = omega (arith, o.upto) in
-          ext_get_or 0 _ _ (o.same ∙ sym (bytes_length (byte_by f es n) start (length out₀)))
-          (λ k h.
-          let h' : k < length out₀ = omega (arith, o.same) in
-          o.each k h' (rw z (c.each (start + k) (omega arith) (omega arith))) ∙ ap (λ j. byte_by f es j (start + k)) z
-          ∙ sym (bytes_get (length out₀) (byte_by f es n) start k h'))
+    -- every place of a piece is covered
+    pub paint_done : Covered es start (length out₀) → i ≡ length es → out ≡ bytes_at (byte_by f es) start (length out₀)
+    unfolding byte_by
+    paint_done c z =
+        ext_get_or 0 _ _ (o.same ∙ sym (bytes_length (byte_by f es) start (length out₀)))
+        (λ k h.
+        let h' : k < length out₀ = omega (arith, o.same) in
+        o.each k h' (rw z (c.each (start + k) (omega arith) (omega arith))) ∙ ap (λ j. byte_from f es (start + k) (top_of es j (start + k))) z
+        ∙ sym (bytes_get (length out₀) (byte_by f es) start k h'))

@@ -1,13 +1,15 @@
 -- Laws of storing in a buffer: in two parts, byte by byte, and as a part that was lent on.
-use Prim.Native.Nat.{ℕ, suc, ◌+◌, ◌-◌, ◌*◌, ◌/◌, ◌%◌, ◌≤◌, ◌<◌}
+use Prim.Native.Nat.{ℕ, ◌+◌, ◌-◌, ◌*◌, ◌/◌, ◌%◌, ◌≤◌, ◌<◌}
 use native.Mathlib.Nat.{add-zero, zero-add}
-use native.Mathlib.Numerals.{add-one}
 use native.Mathlib.Omega.{arith}
 use mathlib.Core.Path.{◌≡◌, refl, sym, ap, ◌∙◌}
 use mathlib.Core.List.{List, [], ◌∷◌, ◌++◌, append_assoc, append-nil}
-use lib.ListN.{length, get_or, take, drop, set, length-append, length-take, length-drop, take-append-drop}
-use lib.Seq.{take_at, take-suc, take-take, length-take-le, drop-drop, sets-eq, drop-append-add}
+use lib.ListN.{length, get_or, take, drop, length-append, length-take, length-drop, take-append-drop}
+use lib.Seq.{take_at, length-take-le, drop-drop, drop-append-add}
 use borrow.Rule.Slice.PartMut.{put_mid}
+use Rattle.std.proofs.lemmas.List.{take_more}
+use Rattle.std.specs.Int.{w64, to_le_bytes}
+use Rattle.std.proofs.Math.Nat.{div-div-eq-div-mul}
 use Rattle.layout.specs.Bytes.{bytes2, bytes4, bytes_at}
 use Rattle.layout.proofs.Views.{bytes_length}
 use Rattle.sheet.specs.declared.Piece.{Piece}
@@ -39,15 +41,10 @@ laid_more d a u v h =
 pub laid_then : (d : List ℕ) (a p : ℕ) (u v : List ℕ) → p ≡ a + length u → p ≤ length d → laid_at (laid_at d a u) p v ≡ laid_at d a (u ++ v)
 laid_then d a p u v e h = ap (λ n. laid_at (laid_at d a u) n v) e ∙ laid_more d a u v (omega arith)
 
-pub laid_four : (d : List ℕ) (i x : ℕ) → i + 4 ≤ length d
-    → set (set (set (set d i (x % 256)) (i + 1) (x / 256 % 256)) (i + 2) (x / 65536 % 256)) (i + 3) (x / 65536 / 256 % 256) ≡ laid_at d i (bytes4 x)
-unfolding laid_at bytes4 bytes2
-laid_four d i x h =
-    let x1 : i + 1 ≡ suc i = omega arith in
-    let x2 : i + 2 ≡ suc (suc i) = omega arith in
-    let x3 : i + 3 ≡ suc (suc (suc i)) = omega arith in
-    rw (x1, x2, x3) (sets-eq (x % 256 ∷ x / 256 % 256 ∷ x / 65536 % 256 ∷ x / 65536 / 256 % 256 ∷ []) d i h
-    ∙ append_assoc (take i d) (x % 256 ∷ x / 256 % 256 ∷ x / 65536 % 256 ∷ x / 65536 / 256 % 256 ∷ []) (drop (i + 4) d))
+-- the lowest four bytes of a number
+pub four_low : (x : ℕ) → take 4 (to_le_bytes w64 x) ≡ bytes4 x
+unfolding bytes4 bytes2
+four_low x = ap (λ y. x % 256 ∷ x / 256 % 256 ∷ x / 65536 % 256 ∷ y % 256 ∷ []) (sym (div-div-eq-div-mul x 65536 256))
 
 pub four_long : (x : ℕ) → length (bytes4 x) ≡ 4
 unfolding bytes4 bytes2
@@ -93,9 +90,6 @@ unfolding data_by
 data_long b [] = refl
 data_long b (q ∷ qs) = simp (length-append, bytes_length b q.start q.size, data_long b qs)
 
-taken : (list : List Piece) (k : ℕ) → k < length list → take (k + 1) list ≡ take k list ++ get_or list k no_piece ∷ []
-taken list k h = rw add-one (take-suc list k no_piece h)
-
 pub total_append : (qs rs : List Piece) → total (qs ++ rs) ≡ total qs + total rs
 total_append [] rs = omega arith
 total_append (q ∷ qs) rs = let e = total_append qs rs in omega arith
@@ -114,7 +108,7 @@ module _ (d : List ℕ) (list : List Piece) (k : ℕ) (h : k < length list) wher
       let s = length-append (list_of (take k list)) (bytes4 q.start) in
       f ∙ ap (λ z. laid_at z (12 + 8 * k) (bytes4 q.size)) (e ∙ laid_then d 8 (8 + 8 * k) (list_of (take k list)) (bytes4 q.start) (omega arith) (omega arith))
       ∙ laid_then d 8 (12 + 8 * k) (list_of (take k list) ++ bytes4 q.start) (bytes4 q.size) (omega arith) (omega arith)
-      ∙ ap (laid_at d 8) (append_assoc (list_of (take k list)) (bytes4 q.start) (bytes4 q.size) ∙ sym (list_snoc (take k list) q) ∙ ap list_of (sym (taken list k h)))
+      ∙ ap (laid_at d 8) (append_assoc (list_of (take k list)) (bytes4 q.start) (bytes4 q.size) ∙ sym (list_snoc (take k list) q) ∙ ap list_of (sym (take_more list k no_piece h)))
 
   -- the bytes: a piece more
   pub data_more : (b : ℕ → ℕ) (from at : ℕ) (y : List ℕ) → at ≡ from + total (take k list) → at ≤ length d
@@ -122,10 +116,10 @@ module _ (d : List ℕ) (list : List Piece) (k : ℕ) (h : k < length list) wher
   data_more b from at y e m f =
       let l = data_long b (take k list) in
       f ∙ laid_then d from at (data_by b (take k list)) (bytes_at b q.start q.size) (omega arith) m
-      ∙ ap (laid_at d from) (sym (data_snoc b (take k list) q) ∙ ap (data_by b) (sym (taken list k h)))
+      ∙ ap (laid_at d from) (sym (data_snoc b (take k list) q) ∙ ap (data_by b) (sym (take_more list k no_piece h)))
 
   pub total_more : total (take (k + 1) list) ≡ total (take k list) + q.size
-  total_more = ap total (taken list k h) ∙ total_append (take k list) (q ∷ []) ∙ omega arith
+  total_more = ap total (take_more list k no_piece h) ∙ total_append (take k list) (q ∷ []) ∙ omega arith
 
 pub part_laid : (a e : ℕ) (d ys zs : List ℕ) → a ≤ e → length zs ≡ e - a → ys ≡ zs → put_mid a (e - a) d ys ≡ laid_at d a zs
 unfolding laid_at
@@ -134,11 +128,9 @@ part_laid a e d ys zs h l z =
     part_back a e d ys zs h z ∙ rw w (append_assoc (take a d) zs (drop e d))
 
 -- there is room for a piece more
-pub total_room : (list : List Piece) (k many : ℕ) → k < many → many ≤ length list → total (take k list) + (get_or list k no_piece).size ≤ total (take many list)
-total_room list k many h m =
-    let t : take (k + 1) (take many list) ≡ take (k + 1) list = take-take (k + 1) many list (omega arith) in
-    let e = ap total (take-append-drop (k + 1) (take many list)) in
-    let s = total_append (take (k + 1) (take many list)) (drop (k + 1) (take many list)) in
-    let w = ap total t in
-    let x = total_more [] list k (omega arith) in
+pub total_room : (list : List Piece) (k : ℕ) → k < length list → total (take k list) + (get_or list k no_piece).size ≤ total list
+total_room list k h =
+    let e = ap total (take-append-drop (k + 1) list) in
+    let s = total_append (take (k + 1) list) (drop (k + 1) list) in
+    let x = total_more [] list k h in
     omega arith

@@ -1,5 +1,5 @@
 -- The walk over places: how far the newest write stays the same, the next start, the piece's end.
-use Prim.Native.Nat.{ℕ, zero, suc, ◌+◌, ◌≤◌, ◌<◌, min}
+use Prim.Native.Nat.{ℕ, ◌+◌, ◌≤◌, ◌<◌, min}
 use native.Mathlib.Nat.{eq-or-lt_of_le}
 use native.Mathlib.Numerals.{add-one}
 use native.Mathlib.Omega.{arith}
@@ -7,7 +7,8 @@ use mathlib.Core.Path.{◌≡◌, refl, sym, ap, ◌∙◌}
 use mathlib.Core.Bool.{true, false}
 use mathlib.Core.Logic.{⊎_elim}
 use mathlib.Core.List.{List}
-use lib.ListN.{get_or}
+use lib.ListN.{length, get_or}
+use Rattle.std.specs.Prelude.{Some, None}
 use Rattle.layout.proofs.Tests.{lt_or_le}
 use Rattle.walk.specs.declared.Entry.{Entry}
 use Rattle.walk.specs.Walk.{no_entry}
@@ -47,11 +48,11 @@ steady_cut f p e r l t s a h m = record { after = a; most = m; same = λ q x y. 
 -- ---- and how far the newest of the first n stays the newest
 
 module _ (es : List Entry) where
-  pub top_none : (p : ℕ) → 0 ≡ top_of es 0 p
+  pub top_none : (p : ℕ) → None ≡ top_of es 0 p
   unfolding top_of
   top_none p = refl
 
-  pub top_over : (n p : ℕ) → overlies p (get_or es n no_entry) ≡ true → n + 1 ≡ top_of es (n + 1) p
+  pub top_over : (n p : ℕ) → overlies p (get_or es n no_entry) ≡ true → Some n ≡ top_of es (n + 1) p
   unfolding top_of
   top_over n p e = rw (add-one, e)
 
@@ -76,17 +77,8 @@ module _ (es : List Entry) where
   }
 
   -- where the newest write stays the same, so does the key
-  pub key_steady : (n p e r : ℕ) → Steady (top_of es n) p e r → Steady (key_by es n) p e r
-  key_steady n p e r s = record { after = s.after; most = s.most; same = λ q x y. ap key_at (s.same q x y) }
-
-pub key_zero : (i : ℕ) → i ≡ 0 → 0 ≡ key_at i
-unfolding key_at
-key_zero i e = ap key_at (sym e)
-
-pub key_one : (i : ℕ) → (i ≡ 0 → ⊥) → 1 ≡ key_at i
-unfolding key_at
-key_one zero h = absurd (h refl)
-key_one (suc i) h = refl
+  pub key_steady : (p e r : ℕ) → Steady (top_of es (length es)) p e r → Steady (key_by es) p e r
+  key_steady p e r s = record { after = s.after; most = s.most; same = λ q x y. ap key_at (s.same q x y) }
 
 -- ---- the next start, and the piece's end
 

@@ -9,6 +9,7 @@ use borrow.Author.Tests.{leb-true}
 use lib.ListN.{length, take, get_or, length-map}
 use lib.Seq.{take-suc, take_all}
 use lib.Dec.{leb}
+use Rattle.std.specs.Prelude.{Some, Option, Some}
 use Rattle.layout.specs.Sizes.{largest}
 use Rattle.layout.proofs.Tests.{both_left, both_right}
 use Rattle.walk.specs.declared.Entry.{Entry}
@@ -21,13 +22,13 @@ use Rattle.sheet.specs.Places.{overlies, top_of, key_at, key_by, is_short, grow,
 use Rattle.sheet.proofs.Growing.{gather_same}
 use Rattle.sheet.proofs.Right.{AreThose, right}
 use Rattle.sheet.proofs.Few.{few_pieces}
-use Rattle.sheet.proofs.Cutting.{pieces_grown, order_twice}
-use Rattle.sheet.proofs.Collecting.{order_length}
+use Rattle.sheet.proofs.Cutting.{pieces_grown}
+use Rattle.std.proofs.lemmas.List.{length-reverse, reverse-reverse}
 use Rattle.sheet.proofs.Covered.{key_is}
 
 -- the pieces, taken from the last one back: each is the last of the places that are left, none could have gone on into the next
 pub pieces_right : (ws : List Write) → AreThose (key_of ws) (end_of ws) (in_order (pieces_of ws))
-pieces_right ws = rw (pieces_grown ws, order_twice (grow (key_of ws) (end_of ws))) (right (key_of ws) (end_of ws))
+pieces_right ws = rw (pieces_grown ws, reverse-reverse (grow (key_of ws) (end_of ws))) (right (key_of ws) (end_of ws))
 
 -- ---- never more pieces than writes
 
@@ -39,13 +40,12 @@ covers_extent : (p : ℕ) (ws : List Write) → any (overlies p) (map extent ws)
 covers_extent p [] = refl
 covers_extent p (w ∷ ws) = ap (pick (covers p w) true) (covers_extent p ws)
 
-key_by_law : (t : Bool) (n k : ℕ) → key_at (pick t (suc n) k) ≡ pick t 1 (key_at k)
-unfolding key_at
-key_by_law true n k = refl
-key_by_law false n k = refl
+key_by_law : (t : Bool) (n : ℕ) (o : Option ℕ) → key_at (pick t (Some n) o) ≡ pick t 1 (key_at o)
+key_by_law true n o = refl
+key_by_law false n o = refl
 
-key_any : (p : ℕ) (es : List Entry) (n : ℕ) → n ≤ length es → key_by es n p ≡ pick (any (overlies p) (take n es)) 1 0
-unfolding top_of key_at
+key_any : (p : ℕ) (es : List Entry) (n : ℕ) → n ≤ length es → key_at (top_of es n p) ≡ pick (any (overlies p) (take n es)) 1 0
+unfolding top_of
 key_any p es zero h = refl
 key_any p es (suc n) h =
     let e : Entry = get_or es n no_entry in
@@ -62,13 +62,12 @@ module _ (ws : List Write) where
   abbrev es : List Entry
   es = map extent ws
 
-  same_key : (p : ℕ) → key_of ws p ≡ key_by es (length ws) p
+  same_key : (p : ℕ) → key_of ws p ≡ key_by es p
   same_key p =
-      let l : length es ≡ length ws = length-map ws extent in
       key_is ws p ∙ ap (λ b. pick b 1 0) (sym (covers_extent p ws))
-      ∙ ap (λ xs. pick (any (overlies p) xs) 1 0) (sym (take_all (length ws) es (omega arith))) ∙ sym (key_any p es (length ws) (omega arith))
+      ∙ ap (λ xs. pick (any (overlies p) xs) 1 0) (sym (take_all (length es) es (omega arith))) ∙ sym (key_any p es (length es) (omega arith))
 
-  short_at : (vs : List Write) → all (λ w. leb (length w.bytes) largest) vs ≡ true → (i : ℕ) → i < length vs → (get_or (map extent vs) i no_entry).length ≤ largest
+  short_at : (vs : List Write) → all (λ w. leb (length w.bytes) largest) vs ≡ true → (i : ℕ) → i < length (map extent vs) → (get_or (map extent vs) i no_entry).length ≤ largest
   short_at [] o i h = absurd (let k : i < 0 = h in omega arith)
   short_at (w ∷ vs) o zero h = leb-true _ _ (both_left _ _ o)
   short_at (w ∷ vs) o (suc i) h = short_at vs (both_right (leb (length w.bytes) largest) _ o) i (omega arith)
@@ -76,7 +75,7 @@ module _ (ws : List Write) where
   -- "There are never more pieces than writes in the batch."
   pub pieces_few : all (λ w. leb (length w.bytes) largest) ws ≡ true → length (pieces_of ws) ≤ length ws
   pieces_few o =
-      let g : grow (key_of ws) (end_of ws) ≡ grow (key_by es (length ws)) (end_of ws) = gather_same is_short (key_of ws) (key_by es (length ws)) (end_of ws) (λ q _. same_key q) in
-      let f = few_pieces es (length ws) (short_at ws o) (end_of ws) in
-      let l = ap length (pieces_grown ws) ∙ order_length (grow (key_of ws) (end_of ws)) ∙ ap length g in
-      omega arith
+      let g : grow (key_of ws) (end_of ws) ≡ grow (key_by es) (end_of ws) = gather_same is_short (key_of ws) (key_by es) (end_of ws) (λ q _. same_key q) in
+      let f = few_pieces es (short_at ws o) (end_of ws) in
+      let l = ap length (pieces_grown ws) ∙ length-reverse (grow (key_of ws) (end_of ws)) ∙ ap length g in
+      omega (arith, length-map ws extent)

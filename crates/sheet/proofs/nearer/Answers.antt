@@ -4,11 +4,11 @@ use Rattle.sheet.proofs.Walking.{steady_before, steady_in, steady_after}
 use Rattle.sheet.proofs.nearer.Goals as goal
 
 pub returns-then-p-start : goal.returns-then-p-start
-returns-then-p-start c = let l = c.lesser.ensures in
+returns-then-p-start c = let l = c.min.ensures in
     steady_before _ _ _ _ _ (omega arith) (omega arith) (omega arith)
 
 pub returns-then-p-start-2 : goal.returns-then-p-start-2
-returns-then-p-start-2 c = let l = c.lesser-then-p-start-2.ensures in
+returns-then-p-start-2 c = let l = c.min-then-p-start-2.ensures in
     steady_in _ _ _ _ _ (omega arith) (omega arith) (omega arith) (omega arith)
 
 pub returns : goal.returns

@@ -1,12 +1,11 @@
--- `sheet::pieces_of` meets its contract: `Collected`: what is listed are the pieces of the places below s, and no byte from s on goes on the last of them; and s is known (`StartAt`).
-use Prim.Native.Nat.{◌-◌, ◌<◌}
-use Rattle.sheet.specs.Places.{key_by, StartAt}
+-- `sheet::pieces_of` meets its contract: `Collected`: what is listed are the pieces of the places below `at`, and no byte from there on goes on the last of them.
+use Prim.Native.Nat.{◌-◌}
+use Rattle.sheet.specs.Places.{key_by}
 use Rattle.sheet.proofs.Collecting.{Collected}
 use Rattle.sheet.proofs.pieces_of.Given as goal
 
-abbrev pub invariant-loop-s : goal.invariant-loop-s
-invariant-loop-s l =
-    Collected (key_by l.entries l.count) l.end l.list l.many l.size l.s.place × (l.s.place < l.end → StartAt (key_by l.entries l.count) l.end l.s)
+abbrev pub invariant-loop-start : goal.invariant-loop-start
+invariant-loop-start l = Collected (key_by l.entries) l.end l.list.items l.size l.at
 
-abbrev pub decreases-loop-s : goal.decreases-loop-s
-decreases-loop-s l = l.end - l.s.place
+abbrev pub decreases-loop-start : goal.decreases-loop-start
+decreases-loop-start l = l.end - l.at

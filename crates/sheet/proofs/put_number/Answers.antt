@@ -1,17 +1,11 @@
--- `sheet::put_number` meets its contract: four stores of a byte lay the number's four bytes (`laid_four`).
-use lib.ListN.{length-set}
+-- `sheet::put_number` meets its contract: the lowest four of the number's bytes are laid in the buffer (`four_low`).
+use Prim.Native.Nat.{◌+◌}
+use mathlib.Core.Path.{ap, ◌∙◌}
+use lib.ListN.{take}
 use native.Mathlib.Omega.{arith}
-use Rattle.sheet.proofs.Storing.{laid_four}
+use Rattle.sheet.proofs.Storing.{four_low, four_long, part_laid}
 use Rattle.sheet.proofs.put_number.Goals as goal
 
-pub bounds-buffer-at-2 : goal.bounds-buffer-at-2
-bounds-buffer-at-2 c = simp length-set (omega arith)
-
-pub bounds-buffer-at-3 : goal.bounds-buffer-at-3
-bounds-buffer-at-3 c = simp length-set (omega arith)
-
-pub bounds-buffer-at-4 : goal.bounds-buffer-at-4
-bounds-buffer-at-4 c = simp length-set (omega arith)
-
 pub returns : goal.returns
-returns c = laid_four _ _ _ c.requires
+returns c = let a = c.args in
+    part_laid a.at (a.at + 4) a.buffer.now _ _ (omega arith) (let l = four_long a.x in omega arith) (c.copy_from_slice.ensures.after ∙ ap (take 4) c.to_le_bytes.ensures ∙ four_low a.x)

@@ -6,11 +6,10 @@ use Rattle.sheet.proofs.put_overlap.Goals as goal
 
 pub returns-then-from-until : goal.returns-then-from-until
 returns-then-from-until c = let a = c.args in
-    paint_span (round a.bytes.now a.n) a.entry a.start a.out.now _ _ c.larger-from.ensures
-    c.lesser-until.ensures c.if-from-until.true _ c.put_span.ensures
+    paint_span (round a.bytes.now a.n) a.entry a.start a.out.now _ _ c.max-from.ensures c.min-until.ensures c.if-from-until.true _ c.entry_bytes.ensures
 
 pub returns-else-from-until : goal.returns-else-from-until
-returns-else-from-until c = let x = c.larger-from.ensures in
-    let y = c.lesser-until.ensures in
+returns-else-from-until c = let x = c.max-from.ensures in
+    let y = c.min-until.ensures in
     let h = c.if-from-until.false in
     paint_none _ _ _ _ (omega arith)
