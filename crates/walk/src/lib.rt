@@ -23,7 +23,7 @@ use layout::Ring;
 use reason::Reason;
 
 // An entry's head, and where it stands.
-#[derive(Clone, Copy)]
+#[derive(Clone, Copy, Default)]
 pub struct Entry {
     pub number: u64,
     pub node: u32,
