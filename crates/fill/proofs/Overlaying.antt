@@ -9,21 +9,10 @@ use borrow.Author.Tests.{lt-ltb, le-ltb}
 use borrow.Rule.Slice.PartMut.{mid_of, post_of, put_mid, same_len_mid, Post-is, mid_len, put_same}
 use lib.ListN.{length, take, drop, get_or, set, replicate, length-set, length-append, length-drop}
 use lib.Seq.{take-suc, take-add, take_at, take-length, drop_at, drop-cons, drop-length, set_at, get_or_at, length-take-le}
-use Rattle.layout.specs.Bytes.{bytes_at}
 use Rattle.walk.specs.Walk.{Write}
 use Rattle.shore.specs.Cover.{byte_over}
 use Rattle.rules.specs.Fill.{filled_from, filled}
 use Rattle.fill.specs.Overlay.{overlaid}
-
--- ---- zeros, written one by one
-
-abbrev pub blank : ℕ → ℕ
-blank p = 0
-
-pub blank_bytes : (p n : ℕ) → bytes_at blank p n ≡ replicate n 0
-unfolding bytes_at
-blank_bytes p zero = refl
-blank_bytes p (suc n) = ap (◌∷◌ 0) (blank_bytes (suc p) n)
 
 -- ---- bytes laid over
 
