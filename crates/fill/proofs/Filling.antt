@@ -1,6 +1,6 @@
--- What a fill's count comes to, and each of its returns. Document 01, "Moves", paragraph "Fill".
+-- What a fill comes to at each of its returns. Document 01, "Moves", paragraph "Fill".
 use Rattle.std.specs.Prelude.{None, Result, Ok, Err}
-use Prim.Native.Nat.{ℕ, ◌+◌, ◌-◌, ◌≤◌, max, min}
+use Prim.Native.Nat.{ℕ, ◌+◌, ◌≤◌}
 use mathlib.Core.Path.{◌≡◌, refl, sym, ap, ◌∙◌}
 use mathlib.Core.List.{List, [], ◌∷◌}
 use lib.ListN.{length, take}
@@ -8,8 +8,7 @@ use Rattle.reason.specs.declared.Reason.{Reason}
 use Rattle.layout.specs.Sizes.{file_end}
 use Rattle.walk.specs.Walk.{readable, unreadable}
 use Rattle.state.specs.declared.State.{State}
-use Rattle.state.specs.Asks.{larger, cached_end}
-use Rattle.state.proofs.Extremes.{larger_max, lesser_min}
+use Rattle.state.specs.Asks.{cached_end}
 use Rattle.judge.specs.declared.Judged.{Judged}
 use Rattle.rules.specs.Call.{fill_read}
 use Rattle.rules.specs.Fill.{writes_for, fill_count, filled}
@@ -19,14 +18,6 @@ use Rattle.rules.specs.Known.{Known}
 use Rattle.rules.proofs.Judging.{Judges, judge_passes}
 use Rattle.fill.specs.Answers.{may_of}
 use Rattle.fill.proofs.Refusing.{may_none, may_some, own_same, fillable}
-
--- ---- the count
-
--- "the greater of g and min(n, E - offset)"
-pub count_is : (n g offset end : ℕ) → fill_count n g offset end ≡ max g (min n (end - offset))
-count_is n g offset end = ap (larger g) (lesser_min n (end - offset)) ∙ larger_max g (min n (end - offset))
-
--- ---- the returns
 
 pub judges_fill : (pin node offset fetched : ℕ) (b : List ℕ) → Judges (fill_read pin node offset fetched b)
 judges_fill pin node offset fetched b = record { reads = refl; fits = refl }

@@ -1,6 +1,6 @@
 -- The writes that touch a part of a node's file: the pass that chooses them, and that no other write decides a byte of the part.
 use Prim.Native.Nat.{ℕ, ◌+◌, ◌≤◌, ◌<◌}
-use mathlib.Core.Path.{◌≡◌, refl, sym, ap, ◌∙◌}
+use mathlib.Core.Path.{◌≡◌, sym, ap, ◌∙◌}
 use mathlib.Core.Bool.{Bool, true, false}
 use mathlib.Core.List.{List, [], ◌∷◌, ◌++◌, append-nil}
 use native.Mathlib.Omega.{arith}
@@ -29,9 +29,6 @@ pub record Choosing (q : Held → Bool) (l : List Held) (out : List Held) (many 
   pub front : take many out ≡ those q (take i l)
 
 module _ (q : Held → Bool) (l : List Held) where
-  pub choose_start : (out : List Held) → length l ≤ length out → Choosing q l out 0 0
-  choose_start out r = record { upto = omega arith; room = r; few = omega arith; front = refl }
-
   module _ (out : List Held) (many i : ℕ) (k : Choosing q l out many i) where
     module _ (h : i < length l) where
       abbrev x : Held

@@ -7,7 +7,7 @@ use mathlib.Core.Bool.{Bool, true, false}
 use mathlib.Core.List.{List, [], ◌∷◌, ◌++◌, map}
 use native.Mathlib.Omega.{arith}
 use lib.ListN.{length, take, get_or}
-use lib.Seq.{take-suc, take-length}
+use lib.Seq.{take-suc}
 use Rattle.layout.specs.Sizes.{slot_size, head_size}
 use Rattle.layout.specs.Bytes.{both, round}
 use Rattle.layout.specs.declared.Ring.{Ring}
@@ -102,9 +102,6 @@ module _ (node : ℕ) (r : List ℕ) (g : Ring) (p : ℕ) where
     pub rest : byte_over p other (writes_for node r g held) ≡ byte_over p other (writes_for node r g (take i held))
 
   module _ (held : List Held) (other : ℕ) where
-    pub seek_start : Seeking held other (length held)
-    seek_start = record { upto = omega arith; rest = rw take-length }
-
     pub seek_none : (i : ℕ) → Seeking held other i → i ≡ 0 → other ≡ byte_over p other (writes_for node r g held)
     unfolding byte_over
     seek_none i s z = sym (s.rest ∙ rw z)

@@ -151,33 +151,39 @@ impl<'a> Layer<'a> {
         }
     }
 
-    // The same as `overlay`, block by block: the writes that touch a block are chosen first, and only those are searched for its bytes. Most
-    // blocks have none. The choosing stands here, since a function of its own would hand back ten kilobytes for each block.
+    // The same as `overlay`: the writes that touch the part are chosen first, into room that is lent, and only those are searched for its bytes.
+    // Most parts have none.
+    fn overlay_near(&self, near: &mut [Held; Ring::ENTRIES], from: usize, part: &mut [u8])
+        requires { from + length part.old ≤ file_end }
+        ensures { part.new ≡ overlaid self.now from part.old }
+    {
+        let end = from + part.len();
+        let mut many: usize = 0;
+        for one in self.held {
+            if is_near(*one, self.node, from, end) {
+                near[many] = *one;
+                many += 1;
+            }
+        }
+        if 0 < many {
+            let layer = Layer {
+                held: &near[0..many],
+                ..*self
+            };
+            layer.overlay(from, part);
+        }
+    }
+
+    // The same, block by block.
     fn overlay_blocks(&self, from: usize, out: &mut [u8])
         requires { from + length out.old ≤ file_end }
         ensures { out.new ≡ overlaid self.now from out.old }
     {
-        let mut near = none_near();
-        let mut k: usize = 0;
-        while k < out.len() {
-            let end = k + BLOCK.min(out.len() - k);
-            let mut many: usize = 0;
-            for one in self.held {
-                if is_near(*one, self.node, from + k, from + end) {
-                    near[many] = *one;
-                    many += 1;
-                }
-            }
-            if 0 < many {
-                let layer = Layer {
-                    bytes: self.bytes,
-                    ring: self.ring,
-                    held: &near[0..many],
-                    node: self.node,
-                };
-                layer.overlay(from + k, &mut out[k..end]);
-            }
-            k = end;
+        let entry = walk::no_entry();
+        let mut near = [Held { entry, phase: 0 }; Ring::ENTRIES];
+        let n = out.len();
+        for k in (0..n).step_by(BLOCK) {
+            self.overlay_near(&mut near, from + k, &mut out[k..n.min(k + BLOCK)]);
         }
     }
 
@@ -198,14 +204,6 @@ impl<'a> Layer<'a> {
         self.overlay_blocks(from, &mut buffer[0..g]);
         self.zero_and_overlay(from + g, &mut buffer[g..r]);
     }
-}
-
-// Room for the writes that are near.
-fn none_near() -> [Held; Ring::ENTRIES]
-    ensures { length result ≡ most_entries }
-{
-    let entry = walk::no_entry();
-    [Held { entry, phase: 0 }; Ring::ENTRIES]
 }
 
 // The count r: the greater of g and min(n, E - offset).

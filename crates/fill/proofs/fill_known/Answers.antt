@@ -30,7 +30,10 @@ invariant_of-layer c = let k = sure c.args.bytes.now c.args.s.now _ c.requires i
 
 pub fill_bytes-requires : goal.fill_bytes-requires
 fill_bytes-requires c = let a = c.args in
-    (c.count_of-r.ensures.1, c.count_of-r.ensures.2, (fits a.bytes.now a.s.now _ c.requires a.pin a.node a.offset a.fetched a.buffer.now _ c.in_ok-may_fill.ensures).0)
+    let f = fits a.bytes.now a.s.now _ c.requires a.pin a.node a.offset a.fetched a.buffer.now _ c.in_ok-may_fill.ensures in
+    let u = f.1 in
+    let k = c.count_of-r.ensures in
+    (omega (arith, u, k.1, k.2), omega (arith, u, k.1, k.2), f.0)
 
 pub returns : goal.returns
 returns c = let a = c.args in
