@@ -125,6 +125,7 @@ impl<'a> Model for Layer<'a> {
 impl<'a> Layer<'a> {
     // Lays the writes over bytes of the file, which stand in it from a place on. Each byte is that of the newest write that covers it, else
     // as it was; the search for a byte stops there.
+    #[tactic(auto, using(crate::proofs::Overlaying::lay_start, crate::proofs::Seeking::over_inside, crate::proofs::Seeking::seek_on))]
     fn overlay(&self, from: usize, out: &mut [u8])
         requires { from + length out.old ≤ file_end }
         ensures { out.new ≡ overlaid self.now from out.old }
@@ -175,6 +176,7 @@ impl<'a> Layer<'a> {
     }
 
     // The same, block by block.
+    #[tactic(auto, using(crate::proofs::Overlaying::lay_start, crate::proofs::Overlaying::lay_part, crate::proofs::Overlaying::lay_done))]
     fn overlay_blocks(&self, from: usize, out: &mut [u8])
         requires { from + length out.old ≤ file_end }
         ensures { out.new ≡ overlaid self.now from out.old }
@@ -197,6 +199,7 @@ impl<'a> Layer<'a> {
     }
 
     // The bytes before r: those before g over what was fetched, those behind g over zeros.
+    #[tactic(auto, using(crate::proofs::Overlaying::parts_back))]
     fn fill_bytes(&self, from: usize, g: usize, r: usize, buffer: &mut [u8])
         requires { (g ≤ r) × (r ≤ length buffer.old) × (from + length buffer.old ≤ file_end) }
         ensures { buffer.new ≡ filled self.now from g r buffer.old }
@@ -246,6 +249,7 @@ fn fill_known(
 }
 
 // Fills a read: lays what is held over what was fetched.
+#[tactic(auto, using(rules::proofs::Judging::known, rules::proofs::Judging::judge_refuses, crate::proofs::Filling::judges_fill))]
 pub fn fill(
     bytes: &[u8],
     s: &State,
