@@ -47,6 +47,7 @@ fn any_named(pins: &[Pin], number: u64, node: u32) -> bool
 }
 
 // Whether there is a live pin of that number for that very node.
+#[tactic(auto, using(crate::proofs::Refusing::any_list, std::proofs::lemmas::Bool::Decides::nat_tests), unfolding(layout::specs::Bytes::both))]
 fn is_pinned(pins: &[Pin], number: u64, node: u32) -> bool
     ensures { result ≡ both (ltb 0 number) (has_pin_for number node pins.now) }
 {
