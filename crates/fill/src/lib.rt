@@ -237,12 +237,13 @@ fn fill_known(
 {
     may_fill(s, pin, node, offset, fetched, buffer)?;
     let n = buffer.len();
+    let held = judged.held();
     let end = state::end_of(judged.held, judged.count, node);
     let r = count_of(n, fetched, offset, end);
     let layer = Layer {
         bytes,
         ring: judged.ring,
-        held: judged.held(),
+        held,
         node,
     };
     layer.fill_bytes(offset as usize, fetched, r, buffer);
