@@ -125,7 +125,7 @@ impl<'a> Model for Layer<'a> {
 
 impl<'a> Layer<'a> {
     // Lays the writes over bytes of the file, which stand in it from a place on. Each byte is that of the newest write that covers it, else
-    // as it was; the search for a byte stops there.
+    // as it was; the search for a byte stops there. The loops have this form in document 01: over the bytes, in it from the newest write back.
     #[tactic(auto, using(crate::proofs::Overlaying::lay_start, crate::proofs::Seeking::over_inside, crate::proofs::Seeking::seek_on))]
     fn overlay(&self, from: usize, out: &mut [u8])
         requires { from + length out.old ≤ file_end }
@@ -154,7 +154,7 @@ impl<'a> Layer<'a> {
     }
 
     // The same as `overlay`: the writes that touch the part are chosen first, into room that is lent, and only those are searched for its bytes.
-    // Most parts have none.
+    // Most parts have none. Without a heap the room is an array, of which `many` places are taken.
     fn overlay_near(&self, near: &mut [Held; Ring::ENTRIES], from: usize, part: &mut [u8])
         requires { from + length part.old ≤ file_end }
         ensures { part.new ≡ overlaid self.now from part.old }
@@ -221,7 +221,8 @@ fn count_of(n: usize, g: usize, offset: u32, end: u64) -> usize
 
 // ---- the call
 
-// Fills a read, on a ring and a state that passed the judge.
+// Fills a read, on a ring and a state that passed the judge. What is asked comes place by place, as the host's call has it and `fill_read` takes it:
+// a struct of it would be made in `fill` and taken apart in each contract.
 fn fill_known(
     bytes: &[u8],
     s: &State,
