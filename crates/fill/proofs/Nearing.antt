@@ -1,13 +1,13 @@
 -- The writes that touch a part of a node's file: the pass that chooses them, and that no other write decides a byte of the part.
 use Prim.Native.Nat.{ℕ, ◌+◌, ◌≤◌, ◌<◌}
-use mathlib.Core.Path.{◌≡◌, refl, sym, ap, ◌∙◌}
+use mathlib.Core.Path.{◌≡◌, sym, ap, ◌∙◌}
 use mathlib.Core.Bool.{Bool, true, false}
 use mathlib.Core.List.{List, [], ◌∷◌, ◌++◌, append-nil}
 use native.Mathlib.Omega.{arith}
 use native.Mathlib.Numerals.{add-one}
 use borrow.Author.Tests.{lt-ltb}
 use lib.ListN.{length, take, get_or, set, length-set}
-use lib.Seq.{take-suc, take-set-le, get_or-set_same}
+use lib.Seq.{take-length, take-suc, take-set-le, get_or-set_same}
 use Rattle.layout.specs.declared.Ring.{Ring}
 use Rattle.layout.proofs.Tests.{both_left}
 use Rattle.state.specs.declared.Held.{Held}
@@ -22,37 +22,31 @@ use Rattle.fill.proofs.Overlaying.{over_same}
 
 -- ---- the pass: those of the first i that pass the test stand in front of an array
 
-pub record Choosing (q : Held → Bool) (l : List Held) (n : ℕ) (out : List Held) (many i : ℕ) : Type 0 where
-  pub upto : i ≤ n
-  pub within : n ≤ length l
-  pub room : n ≤ length out
+pub record Choosing (q : Held → Bool) (l : List Held) (out : List Held) (many i : ℕ) : Type 0 where
+  pub upto : i ≤ length l
+  pub room : length l ≤ length out
   pub few : many ≤ i
   pub front : take many out ≡ those q (take i l)
 
-module _ (q : Held → Bool) (l : List Held) (n : ℕ) where
-  pub choose_start : (out : List Held) → n ≤ length l → n ≤ length out → Choosing q l n out 0 0
-  choose_start out h r = record { upto = omega arith; within = h; room = r; few = omega arith; front = refl }
-
-  module _ (out : List Held) (many i : ℕ) (k : Choosing q l n out many i) where
-    module _ (h : i < n) where
+module _ (q : Held → Bool) (l : List Held) where
+  module _ (out : List Held) (many i : ℕ) (k : Choosing q l out many i) where
+    module _ (h : i < length l) where
       abbrev x : Held
       x = get_or l i no_held
 
       -- one more is looked at
       more : (b : Bool) → q x ≡ b → those q (take (i + 1) l) ≡ those q (take i l) ++ pick b (x ∷ []) []
       more b e =
-          let w = k.within in
-          ap (those q) (ap (λ j. take j l) (add-one i) ∙ take-suc l i no_held (omega arith)) ∙ those_append q (take i l) (x ∷ [])
+          ap (those q) (ap (λ j. take j l) (add-one i) ∙ take-suc l i no_held h) ∙ those_append q (take i l) (x ∷ [])
           ∙ ap (λ t. those q (take i l) ++ pick t (x ∷ []) []) e
 
-      yes : q x ≡ true → Choosing q l n (set out many x) (many + 1) (i + 1)
+      yes : q x ≡ true → Choosing q l (set out many x) (many + 1) (i + 1)
       yes e =
           let f = k.few in
           let r = k.room in
           let s : length (set out many x) ≡ length out = length-set out many x in
           record {
             upto = omega arith;
-            within = k.within;
             room = omega arith;
             few = omega arith;
             front =
@@ -61,29 +55,28 @@ module _ (q : Held → Bool) (l : List Held) (n : ℕ) where
                 ∙ ap (λ ys. ys ++ x ∷ []) (take-set-le many out many x (omega arith) ∙ k.front) ∙ sym (more true e);
           }
 
-      no : q x ≡ false → Choosing q l n out many (i + 1)
+      no : q x ≡ false → Choosing q l out many (i + 1)
       no e =
           let f = k.few in
           record {
             upto = omega arith;
-            within = k.within;
             room = k.room;
             few = omega arith;
             front = k.front ∙ sym (more false e ∙ append-nil (those q (take i l)));
           }
 
       -- the same of what the code stores
-      pub choose_yes : (out' : List Held) (many' : ℕ) → q x ≡ true → out' ≡ set out many x → many' ≡ many + 1 → Choosing q l n out' many' (i + 1)
+      pub choose_yes : (out' : List Held) (many' : ℕ) → q x ≡ true → out' ≡ set out many x → many' ≡ many + 1 → Choosing q l out' many' (i + 1)
       choose_yes out' many' e a b = rw (a, b) (yes e)
 
-      pub choose_no : (out' : List Held) (many' : ℕ) → q x ≡ false → out' ≡ out → many' ≡ many → Choosing q l n out' many' (i + 1)
+      pub choose_no : (out' : List Held) (many' : ℕ) → q x ≡ false → out' ≡ out → many' ≡ many → Choosing q l out' many' (i + 1)
       choose_no out' many' e a b = rw (a, b) (no e)
 
-    pub choose_end : n ≤ i → take many out ≡ those q (take n l)
+    pub choose_end : length l ≤ i → take many out ≡ those q l
     choose_end h =
         let u = k.upto in
-        let z : i ≡ n = omega arith in
-        k.front ∙ ap (λ j. those q (take j l)) z
+        let z : i ≡ length l = omega arith in
+        k.front ∙ ap (those q) (ap (λ j. take j l) z ∙ take-length l)
 
 -- ---- a write that is over a place of the part is among those chosen, so no other decides a byte of it
 
@@ -95,8 +88,8 @@ module _ (node from end : ℕ) where
       let m = k.1 in
       both_intro _ _ (both_left (is_of node h) _ e) (both_intro _ _ (lt-ltb h.entry.offset end (omega arith)) (lt-ltb from (end_of h) (omega arith)))
 
-  pub near_same : (held near : List Held) (count many : ℕ) → take many near ≡ those (is_near node from end) (take count held) → (r : List ℕ) (g : Ring) (bs : List ℕ)
-      → from + length bs ≤ end → overlaid (writes_for node r g (take many near)) from bs ≡ overlaid (writes_for node r g (take count held)) from bs
-  near_same held near count many e r g bs h =
+  pub near_same : (held near : List Held) → near ≡ those (is_near node from end) held → (r : List ℕ) (g : Ring) (bs : List ℕ)
+      → from + length bs ≤ end → overlaid (writes_for node r g near) from bs ≡ overlaid (writes_for node r g held) from bs
+  near_same held near e r g bs h =
       ap (λ ks. overlaid (writes_for node r g ks) from bs) e
-      ∙ over_same _ _ from bs (λ p b u v. byte_those node r g p (is_near node from end) (over_near p u (omega arith)) b (take count held))
+      ∙ over_same _ _ from bs (λ p b u v. byte_those node r g p (is_near node from end) (over_near p u (omega arith)) b held)

@@ -6,24 +6,13 @@ use native.Mathlib.Nat.{add-zero, add-suc, suc-add, sub-zero, le_of_suc-le-suc}
 use native.Mathlib.Numerals.{add-one}
 use native.Mathlib.Omega.{arith}
 use borrow.Author.Tests.{lt-ltb, le-ltb}
-use borrow.Rule.Slice.PartMut.{mid_of, post_of, put_mid, same_len_mid, Post-is, mid_len, put_same}
+use borrow.Rule.Slice.PartMut.{mid_of, post_of, put_mid, same_len_mid, Post-is, mid_len}
 use lib.ListN.{length, take, drop, get_or, set, replicate, length-set, length-append, length-drop}
 use lib.Seq.{take-suc, take-add, take_at, take-length, drop_at, drop-cons, drop-length, set_at, get_or_at, length-take-le}
-use Rattle.layout.specs.Bytes.{bytes_at}
 use Rattle.walk.specs.Walk.{Write}
 use Rattle.shore.specs.Cover.{byte_over}
 use Rattle.rules.specs.Fill.{filled_from, filled}
 use Rattle.fill.specs.Overlay.{overlaid}
-
--- ---- zeros, written one by one
-
-abbrev pub blank : ℕ → ℕ
-blank p = 0
-
-pub blank_bytes : (p n : ℕ) → bytes_at blank p n ≡ replicate n 0
-unfolding bytes_at
-blank_bytes p zero = refl
-blank_bytes p (suc n) = ap (◌∷◌ 0) (blank_bytes (suc p) n)
 
 -- ---- bytes laid over
 
@@ -107,10 +96,6 @@ module _ (ws : List Write) where
                 ∙ ap (λ d. front ++ (ys ++ drop (e - k) d)) rest ∙ ap (λ d. front ++ (ys ++ d)) (Post-is k e out₀ h)
                 ∙ sym (append_assoc front ys (drop e out₀)) ∙ ap (λ f. f ++ drop e out₀) (sym whole);
           }
-
-      -- nothing is laid on the part up to e
-      pub lay_skip : (e : ℕ) → k ≤ e → e ≤ length out₀ → overlaid ws (from + k) (mid_of k (e - k) out) ≡ mid_of k (e - k) out → Laying from out₀ out e
-      lay_skip e h l y = rw (put_same k (e - k) out) at (lay_part e (mid_of k (e - k) out) h l (sym y))
 
       pub lay_done : length out₀ ≤ k → out ≡ overlaid ws from out₀
       lay_done h =

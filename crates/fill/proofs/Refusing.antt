@@ -1,9 +1,10 @@
 -- A fill's own refusals, one row at a time, and what a fill that isn't refused keeps. Document 01, "When the box says no".
-use Rattle.std.specs.Prelude.{Option, None, Some}
+use Rattle.std.specs.Prelude.{Option, None, Some, Result, Ok, Err}
+use Rattle.std.specs.List.{list_any}
 use Prim.Native.Nat.{ℕ, ◌+◌, ◌≤◌, ◌<◌}
 use mathlib.Core.Path.{◌≡◌, refl, sym, ap, ◌∙◌}
-use mathlib.Core.Bool.{Bool, true, false, not}
-use mathlib.Core.List.{List, []}
+use mathlib.Core.Bool.{Bool, true, false, not, ◌||◌}
+use mathlib.Core.List.{List, [], ◌∷◌}
 use borrow.Author.Tests.{eq-eqb, ne_eqb, lt-ltb, le-ltb, ltb-false}
 use lib.ListN.{length}
 use lib.Dec.{eqb, ltb}
@@ -14,27 +15,34 @@ use Rattle.layout.specs.Bytes.{both}
 use Rattle.layout.proofs.Tests.{never}
 use Rattle.walk.specs.Walk.{Reading, unreadable}
 use Rattle.state.specs.declared.State.{State}
-use Rattle.state.specs.Lists.{pick}
+use Rattle.state.specs.Lists.{any, pick}
 use Rattle.state.specs.Pins.{has_pin_for}
 use Rattle.rules.specs.Call.{fill_read}
 use Rattle.rules.specs.Fill.{longest_fill}
 use Rattle.rules.specs.Refusals.{own}
 use Rattle.rules.proofs.Owning.{or, own_fill, pick_false}
-use Rattle.fill.specs.declared.May.{May}
-use Rattle.fill.specs.declared.May.TheVariants.{Go, Refused}
 use Rattle.fill.specs.Answers.{may_of}
 
 -- a verdict tells the row
-pub may_none : (x : Option Reason) → may_of x ≡ Go → x ≡ None
-may_none None e = refl
-may_none (Some why) e = never (cc)
+pub may_none : (x : Option Reason) (t : Unit) → Ok t ≡ may_of x → x ≡ None
+may_none None t e = refl
+may_none (Some why) t e = never (cc)
 
-same_may : (a b : Reason) → ◌≡◌ {A = May} (Refused a) (Refused b) → a ≡ b
+same_may : (a b : Reason) → ◌≡◌ {A = Result Unit Reason} (Err a) (Err b) → a ≡ b
 same_may a b e = cc
 
-pub may_some : (x : Option Reason) (why : Reason) → may_of x ≡ Refused why → x ≡ Some why
+pub may_some : (x : Option Reason) (why : Reason) → Err why ≡ may_of x → x ≡ Some why
 may_some None why e = never (cc)
-may_some (Some w) why e = ap Some (same_may w why e)
+may_some (Some w) why e = ap Some (same_may w why (sym e))
+
+-- what a chain of iterators says of any element, in the state's words
+pub any_list : {A : Type 0} (p : A → Bool) (xs : List A) → list_any p xs ≡ any p xs
+any_list p [] = refl
+any_list p (x ∷ xs) = at (p x) (any_list p xs)
+  where
+    at : (b : Bool) → list_any p xs ≡ any p xs → (b || list_any p xs) ≡ pick b true (any p xs)
+    at true e = refl
+    at false e = e
 
 -- rows that aren't given
 rows_none : (x y v w : Bool) → or x NodeZero (or y PastFileEnd (or v NoSuchPin (or w BadBuffer None))) ≡ None → (y ≡ false) × (w ≡ false)
@@ -49,32 +57,32 @@ module _ (s : State) (pin node offset fetched : ℕ) (b : List ℕ) where
   pub own_same : (r : List ℕ) (x : Reading) → own (fill_read pin node offset fetched b) r x s ≡ own (fill_read pin node offset fetched b) [] unreadable s
   own_same r x = own_fill r x s pin node offset fetched b ∙ sym (own_fill [] unreadable s pin node offset fetched b)
 
-  abbrev verdict : May
+  abbrev verdict : Result Unit Reason
   verdict = may_of (own (fill_read pin node offset fetched b) [] unreadable s)
 
-  pub may_node : node ≡ 0 → Refused NodeZero ≡ verdict
+  pub may_node : node ≡ 0 → Err NodeZero ≡ verdict
   may_node z = sym (ap may_of (own_fill [] unreadable s pin node offset fetched b) ∙ rw (eq-eqb node 0 z))
 
   module _ (z : node ≡ 0 → ⊥) where
-    pub may_end : file_end < offset + length b → Refused PastFileEnd ≡ verdict
+    pub may_end : file_end < offset + length b → Err PastFileEnd ≡ verdict
     may_end h = sym (ap may_of (own_fill [] unreadable s pin node offset fetched b) ∙ rw (ne_eqb node 0 z, lt-ltb file_end (offset + length b) h))
 
     module _ (e : offset + length b ≤ file_end) (t : Bool) (u : t ≡ both (ltb 0 pin) (has_pin_for pin node s.pins)) where
-      pub may_pin : t ≡ false → Refused NoSuchPin ≡ verdict
+      pub may_pin : t ≡ false → Err NoSuchPin ≡ verdict
       may_pin k = sym (ap may_of (own_fill [] unreadable s pin node offset fetched b) ∙ rw (ne_eqb node 0 z, le-ltb file_end (offset + length b) e, sym u ∙ k))
 
       module _ (k : t ≡ true) where
-        pub may_short : length b < fetched → Refused BadBuffer ≡ verdict
+        pub may_short : length b < fetched → Err BadBuffer ≡ verdict
         may_short h =
             sym (ap may_of (own_fill [] unreadable s pin node offset fetched b) ∙ rw (ne_eqb node 0 z, le-ltb file_end (offset + length b) e, sym u ∙ k, lt-ltb (length b) fetched h))
 
         module _ (h : fetched ≤ length b) where
-          pub may_long : longest_fill < length b → Refused BadBuffer ≡ verdict
+          pub may_long : longest_fill < length b → Err BadBuffer ≡ verdict
           may_long l =
               sym (ap may_of (own_fill [] unreadable s pin node offset fetched b)
               ∙ rw (ne_eqb node 0 z, le-ltb file_end (offset + length b) e, sym u ∙ k, le-ltb (length b) fetched h, lt-ltb longest_fill (length b) l))
 
-          pub may_go : length b ≤ longest_fill → Go ≡ verdict
+          pub may_go : length b ≤ longest_fill → Ok tt ≡ verdict
           may_go l =
               sym (ap may_of (own_fill [] unreadable s pin node offset fetched b)
               ∙ rw (ne_eqb node 0 z, le-ltb file_end (offset + length b) e, sym u ∙ k, le-ltb (length b) fetched h, le-ltb longest_fill (length b) l))

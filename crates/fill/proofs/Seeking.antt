@@ -97,26 +97,21 @@ module _ (node : ℕ) (r : List ℕ) (g : Ring) (p : ℕ) where
 
   -- ---- the search: no write from place i on covers p, so that those before it decide
 
-  pub record Seeking (held : List Held) (count other i : ℕ) : Type 0 where
-    pub upto : i ≤ count
-    pub within : count ≤ length held
-    pub rest : byte_over p other (writes_for node r g (take count held)) ≡ byte_over p other (writes_for node r g (take i held))
+  pub record Seeking (held : List Held) (other i : ℕ) : Type 0 where
+    pub upto : i ≤ length held
+    pub rest : byte_over p other (writes_for node r g held) ≡ byte_over p other (writes_for node r g (take i held))
 
-  module _ (held : List Held) (count other : ℕ) where
-    pub seek_start : count ≤ length held → Seeking held count other count
-    seek_start h = record { upto = omega arith; within = h; rest = refl }
-
-    pub seek_none : (i : ℕ) → Seeking held count other i → i ≡ 0 → other ≡ byte_over p other (writes_for node r g (take count held))
+  module _ (held : List Held) (other : ℕ) where
+    pub seek_none : (i : ℕ) → Seeking held other i → i ≡ 0 → other ≡ byte_over p other (writes_for node r g held)
     unfolding byte_over
     seek_none i s z = sym (s.rest ∙ rw z)
 
-    module _ (i : ℕ) (s : Seeking held count other i) (z : i ≡ 0 → ⊥) where
-      step : byte_over p other (writes_for node r g (take count held))
+    module _ (i : ℕ) (s : Seeking held other i) (z : i ≡ 0 → ⊥) where
+      step : byte_over p other (writes_for node r g held)
           ≡ byte_in p other (pick (is_over node p (get_or held (i - 1) no_held)) (Some (write_of (round r g.n) (get_or held (i - 1) no_held).entry)) (newest p (writes_for node r g (take (i - 1) held))))
       unfolding byte_over
       step =
           let u = s.upto in
-          let w = s.within in
           let e : i ≡ suc (i - 1) = omega (arith, z) in
           let h : i - 1 < length held = omega (arith, z) in
           s.rest
@@ -124,17 +119,16 @@ module _ (node : ℕ) (r : List ℕ) (g : Ring) (p : ℕ) where
           ∙ ap (λ hs. byte_in p other (newest p (writes_for node r g hs))) (take-suc held (i - 1) no_held h)
           ∙ ap (byte_in p other) (newest_snoc (take (i - 1) held) (get_or held (i - 1) no_held))
 
-      pub seek_on : is_over node p (get_or held (i - 1) no_held) ≡ false → Seeking held count other (i - 1)
+      pub seek_on : is_over node p (get_or held (i - 1) no_held) ≡ false → Seeking held other (i - 1)
       unfolding byte_over
       seek_on e =
           let u = s.upto in
           record {
             upto = omega arith;
-            within = s.within;
             rest = step ∙ ap (λ b. byte_in p other (pick b (Some (write_of (round r g.n) (get_or held (i - 1) no_held).entry)) (newest p (writes_for node r g (take (i - 1) held))))) e;
           }
 
       pub seek_here : is_over node p (get_or held (i - 1) no_held) ≡ true
-          → get_or (data_of (round r g.n) (get_or held (i - 1) no_held).entry) (p - (get_or held (i - 1) no_held).entry.offset) 0 ≡ byte_over p other (writes_for node r g (take count held))
+          → get_or (data_of (round r g.n) (get_or held (i - 1) no_held).entry) (p - (get_or held (i - 1) no_held).entry.offset) 0 ≡ byte_over p other (writes_for node r g held)
       seek_here e =
           sym (step ∙ ap (λ b. byte_in p other (pick b (Some (write_of (round r g.n) (get_or held (i - 1) no_held).entry)) (newest p (writes_for node r g (take (i - 1) held))))) e)

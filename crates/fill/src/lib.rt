@@ -3,10 +3,11 @@
 // touch its block, newest first.
 #![tactic(auto)]
 
-ghost use Rattle.std.specs.Prelude.{◌≡◌, [], ◌+◌, ◌≤◌, ◌<◌, length, take, replicate, ltb};
+ghost use Rattle.std.specs.Prelude.{◌≡◌, [], List, ◌+◌, ◌≤◌, ◌<◌, length, replicate, ltb};
+ghost use Rattle.std.specs.List.{list_any};
 ghost use Rattle.layout.specs.Sizes.{most_entries, file_end};
 ghost use Rattle.layout.specs.Bytes.{both, Sized};
-ghost use Rattle.walk.specs.Walk.{unreadable};
+ghost use Rattle.walk.specs.Walk.{Write, unreadable};
 ghost use Rattle.state.specs.Pins.{has_pin_for};
 ghost use Rattle.rules.specs.Call.{fill_read};
 ghost use Rattle.rules.specs.Fill.{writes_for, fill_count, filled};
@@ -16,24 +17,11 @@ ghost use Rattle.rules.specs.Outcome.{outcome, lent_by};
 ghost use Rattle.fill.specs.Answers.{said_fill, may_of};
 ghost use Rattle.fill.specs.Overlay.{is_named, is_over, is_near, overlaid};
 
-use judge::Verdict;
+use judge::Judged;
 use layout::Ring;
 use reason::Reason;
-use state::{Held, PINS, Pin, State};
-
-// The count of bytes that the host may show.
-#[derive(Clone, Copy)]
-pub enum Filled {
-    Count(usize),
-    Refused(Reason),
-}
-
-// Whether a fill goes on behind its own refusals.
-#[derive(Clone, Copy)]
-enum May {
-    Go,
-    Refused(Reason),
-}
+use state::{Held, Pin, State};
+use std::marker::Model;
 
 // The longest buffer of a fill.
 pub const LONGEST: usize = 65536;
@@ -44,111 +32,67 @@ const BLOCK: usize = 512;
 // ---- the refusals behind 8 and 12
 
 // Whether a pin has that number and is for that very node.
+#[tactic(auto, using(std::proofs::lemmas::Bool::Decides::nat_tests), unfolding(layout::specs::Bytes::both))]
 fn is_named(pin: Pin, number: u64, node: u32) -> bool
     ensures { result ≡ is_named number node pin }
 {
-    if pin.number != number {
-        return false;
-    }
-    pin.node == node
+    pin.number == number && pin.node == node
+}
+
+// Whether any pin has that number and is for that very node.
+fn any_named(pins: &[Pin], number: u64, node: u32) -> bool
+    ensures { result ≡ list_any (is_named number node) pins.now }
+{
+    pins.iter().any(|pin| is_named(*pin, number, node))
 }
 
 // Whether there is a live pin of that number for that very node.
-fn is_pinned(pins: [Pin; PINS], number: u64, node: u32) -> bool
-    ensures { result ≡ both (ltb 0 number) (has_pin_for number node pins) }
+#[tactic(auto, using(crate::proofs::Refusing::any_list, std::proofs::lemmas::Bool::Decides::nat_tests), unfolding(layout::specs::Bytes::both))]
+fn is_pinned(pins: &[Pin], number: u64, node: u32) -> bool
+    ensures { result ≡ both (ltb 0 number) (has_pin_for number node pins.now) }
 {
-    if number == 0 {
-        return false;
-    }
-    let mut i: usize = 0;
-    while i < PINS {
-        let pin = pins[i];
-        if is_named(pin, number, node) {
-            return true;
-        }
-        i += 1;
-    }
-    false
+    number != 0 && any_named(pins, number, node)
 }
 
 // A fill's own refusals, in the order.
-fn may_fill(s: State, pin: u64, node: u32, offset: u32, fetched: usize, buffer: &[u8]) -> May
-    ensures { result ≡ may_of (own (fill_read pin node offset fetched buffer.now) [] unreadable s) }
+#[tactic(auto, using(crate::proofs::Refusing::may_node, crate::proofs::Refusing::may_end, crate::proofs::Refusing::may_pin, crate::proofs::Refusing::may_short, crate::proofs::Refusing::may_long, crate::proofs::Refusing::may_go))]
+fn may_fill(
+    s: &State,
+    pin: u64,
+    node: u32,
+    offset: u32,
+    fetched: usize,
+    buffer: &[u8],
+) -> Result<(), Reason>
+    ensures { result ≡ may_of (own (fill_read pin node offset fetched buffer.now) [] unreadable s.now) }
 {
-    let pins = s.pins;
     let n = buffer.len();
     if node == 0 {
-        return May::Refused(Reason::NodeZero);
+        return Err(Reason::NodeZero);
     }
-    if (Ring::FILE_END as usize) < n {
-        return May::Refused(Reason::PastFileEnd);
+    if (Ring::FILE_END as usize) < n || Ring::FILE_END - (n as u32) < offset {
+        return Err(Reason::PastFileEnd);
     }
-    if Ring::FILE_END - (n as u32) < offset {
-        return May::Refused(Reason::PastFileEnd);
+    if !is_pinned(&s.pins, pin, node) {
+        return Err(Reason::NoSuchPin);
     }
-    if !is_pinned(pins, pin, node) {
-        return May::Refused(Reason::NoSuchPin);
+    if n < fetched || LONGEST < n {
+        return Err(Reason::BadBuffer);
     }
-    if n < fetched {
-        return May::Refused(Reason::BadBuffer);
-    }
-    if LONGEST < n {
-        return May::Refused(Reason::BadBuffer);
-    }
-    May::Go
+    Ok(())
 }
 
 // ---- the bytes
 
 // Whether a write is the node's and covers a place of its file.
+#[tactic(auto, using(std::proofs::lemmas::Bool::Decides::nat_tests), unfolding(layout::specs::Bytes::both, shore::specs::Cover::spans))]
 fn is_over(held: Held, node: u32, p: usize) -> bool
     ensures { result ≡ is_over node p held }
 {
     let entry = held.entry;
     let start = entry.offset as usize;
-    let size = entry.length as usize;
-    if entry.node != node {
-        return false;
-    }
-    if p < start {
-        return false;
-    }
-    p < start + size
-}
-
-// Lays a node's writes over bytes of its file, which stand in it from a place on. Each byte is that of the newest write that covers it, else
-// as it was; the search for a byte stops there.
-fn overlay(
-    bytes: &[u8],
-    ring: Ring,
-    held: [Held; Ring::ENTRIES],
-    count: usize,
-    node: u32,
-    from: usize,
-    out: &mut [u8],
-)
-    requires sized { Sized bytes.now ring.n }
-    requires count_le_most_entries { (count ≤ most_entries) × (from + length out.old ≤ file_end) }
-    ensures { out.new ≡ overlaid (writes_for node bytes.now ring (take count held)) from out.old }
-{
-    let mut k: usize = 0;
-    while k < out.len() {
-        let p = from + k;
-        let mut i = count;
-        let byte = loop {
-            if i == 0 {
-                break out[k];
-            }
-            i -= 1;
-            let one = held[i];
-            if is_over(one, node, p) {
-                let entry = one.entry;
-                break walk::entry_byte(bytes, ring.n, entry, p - entry.offset as usize);
-            }
-        };
-        out[k] = byte;
-        k += 1;
-    }
+    let stop = start + entry.length as usize;
+    entry.node == node && start <= p && p < stop
 }
 
 // Whether a write is the node's and touches its file from a place up to an end.
@@ -159,82 +103,111 @@ fn is_near(held: Held, node: u32, from: usize, end: usize) -> bool
     let entry = held.entry;
     let start = entry.offset as usize;
     let stop = start + entry.length as usize;
-    if entry.node != node {
-        return false;
-    }
-    if end <= start {
-        return false;
-    }
-    from < stop
+    entry.node == node && start < end && from < stop
 }
 
-// Where the block that begins at k ends.
-fn block_end(k: usize, n: usize) -> usize
-    requires { k < n }
-    ensures { (k < result) × (result ≤ n) }
-{
-    if n - k <= BLOCK {
-        return n;
-    }
-    k + BLOCK
-}
-
-// The same as `overlay`, block by block: the writes that touch a block are chosen first, and only those are searched for its bytes. Most blocks
-// have none. The choosing stands here, since a function of its own would hand back ten kilobytes for each block.
-fn overlay_blocks(
-    bytes: &[u8],
+// A node's writes among those that a ring holds, oldest first, to be laid over bytes of its file: contracts see the list of them.
+#[derive(Drop)]
+struct Layer<'a> {
+    bytes: &'a [u8],
     ring: Ring,
-    held: [Held; Ring::ENTRIES],
-    count: usize,
+    held: &'a [Held],
     node: u32,
-    from: usize,
-    out: &mut [u8],
-)
-    requires sized { Sized bytes.now ring.n }
-    requires count_le_most_entries { (count ≤ most_entries) × (from + length out.old ≤ file_end) }
-    ensures { out.new ≡ overlaid (writes_for node bytes.now ring (take count held)) from out.old }
-{
-    let mut near = held;
-    let mut k: usize = 0;
-    while k < out.len() {
-        let end = block_end(k, out.len());
+}
+
+impl<'a> Model for Layer<'a> {
+    ghost Value = { List Write };
+
+    ghost view = { λ l. writes_for l.node l.bytes.now l.ring l.held.now };
+
+    ghost invariant = { λ l. Sized l.bytes.now l.ring.n × (length l.held.now ≤ most_entries) };
+}
+
+impl<'a> Layer<'a> {
+    // Lays the writes over bytes of the file, which stand in it from a place on. Each byte is that of the newest write that covers it, else
+    // as it was; the search for a byte stops there. The loops have this form in document 01: over the bytes, in it from the newest write back.
+    #[tactic(auto, using(crate::proofs::Overlaying::lay_start, crate::proofs::Seeking::over_inside, crate::proofs::Seeking::seek_on))]
+    fn overlay(&self, from: usize, out: &mut [u8])
+        requires { from + length out.old ≤ file_end }
+        ensures { out.new ≡ overlaid self.now from out.old }
+    {
+        for (k, byte) in out.iter_mut().enumerate() {
+            let p = from + k;
+            let mut i = self.held.len();
+            *byte = loop {
+                if i == 0 {
+                    break *byte;
+                }
+                i -= 1;
+                let one = self.held[i];
+                if is_over(one, self.node, p) {
+                    let entry = one.entry;
+                    break walk::entry_byte(
+                        self.bytes,
+                        self.ring.n,
+                        entry,
+                        p - entry.offset as usize,
+                    );
+                }
+            };
+        }
+    }
+
+    // The same as `overlay`: the writes that touch the part are chosen first, into room that is lent, and only those are searched for its bytes.
+    // Most parts have none. Without a heap the room is an array, of which `many` places are taken.
+    fn overlay_near(&self, near: &mut [Held; Ring::ENTRIES], from: usize, part: &mut [u8])
+        requires { from + length part.old ≤ file_end }
+        ensures { part.new ≡ overlaid self.now from part.old }
+    {
+        let end = from + part.len();
         let mut many: usize = 0;
-        let mut i: usize = 0;
-        while i < count {
-            let one = held[i];
-            if is_near(one, node, from + k, from + end) {
-                near[many] = one;
+        for one in self.held {
+            if is_near(*one, self.node, from, end) {
+                near[many] = *one;
                 many += 1;
             }
-            i += 1;
         }
         if 0 < many {
-            overlay(bytes, ring, near, many, node, from + k, &mut out[k..end]);
+            let layer = Layer {
+                held: &near[0..many],
+                ..*self
+            };
+            layer.overlay(from, part);
         }
-        k = end;
     }
-}
 
-// The bytes behind those that were fetched: zero where no write covers them.
-fn zero_and_overlay(
-    bytes: &[u8],
-    ring: Ring,
-    held: [Held; Ring::ENTRIES],
-    count: usize,
-    node: u32,
-    from: usize,
-    part: &mut [u8],
-)
-    requires sized { Sized bytes.now ring.n }
-    requires count_le_most_entries { (count ≤ most_entries) × (from + length part.old ≤ file_end) }
-    ensures { part.new ≡ overlaid (writes_for node bytes.now ring (take count held)) from (replicate (length part.old) 0) }
-{
-    let mut i: usize = 0;
-    while i < part.len() {
-        part[i] = 0;
-        i += 1;
+    // The same, block by block.
+    #[tactic(auto, using(crate::proofs::Overlaying::lay_start, crate::proofs::Overlaying::lay_part, crate::proofs::Overlaying::lay_done))]
+    fn overlay_blocks(&self, from: usize, out: &mut [u8])
+        requires { from + length out.old ≤ file_end }
+        ensures { out.new ≡ overlaid self.now from out.old }
+    {
+        let entry = walk::no_entry();
+        let mut near = [Held { entry, phase: 0 }; Ring::ENTRIES];
+        let n = out.len();
+        for k in (0..n).step_by(BLOCK) {
+            self.overlay_near(&mut near, from + k, &mut out[k..n.min(k + BLOCK)]);
+        }
     }
-    overlay_blocks(bytes, ring, held, count, node, from, part);
+
+    // The bytes behind those that were fetched: zero where no write covers them.
+    fn zero_and_overlay(&self, from: usize, part: &mut [u8])
+        requires { from + length part.old ≤ file_end }
+        ensures { part.new ≡ overlaid self.now from (replicate (length part.old) 0) }
+    {
+        part.fill(0);
+        self.overlay_blocks(from, part);
+    }
+
+    // The bytes before r: those before g over what was fetched, those behind g over zeros.
+    #[tactic(auto, using(crate::proofs::Overlaying::parts_back))]
+    fn fill_bytes(&self, from: usize, g: usize, r: usize, buffer: &mut [u8])
+        requires { (g ≤ r) × (r ≤ length buffer.old) × (from + length buffer.old ≤ file_end) }
+        ensures { buffer.new ≡ filled self.now from g r buffer.old }
+    {
+        self.overlay_blocks(from, &mut buffer[0..g]);
+        self.zero_and_overlay(from + g, &mut buffer[g..r]);
+    }
 }
 
 // The count r: the greater of g and min(n, E - offset).
@@ -242,107 +215,55 @@ fn count_of(n: usize, g: usize, offset: u32, end: u64) -> usize
     requires { g ≤ n }
     ensures { (result ≡ fill_count n g offset end) × (g ≤ result) × (result ≤ n) }
 {
-    let from = offset as u64;
-    if end <= from {
-        return g;
-    }
-    let reach = (end - from) as usize;
-    if reach <= g {
-        return g;
-    }
-    if n <= reach {
-        return n;
-    }
-    reach
-}
-
-// The bytes before r: those before g over what was fetched, those behind g over zeros.
-fn fill_bytes(
-    bytes: &[u8],
-    ring: Ring,
-    held: [Held; Ring::ENTRIES],
-    count: usize,
-    node: u32,
-    from: usize,
-    g: usize,
-    r: usize,
-    buffer: &mut [u8],
-)
-    requires sized { Sized bytes.now ring.n }
-    requires count_le_most_entries { (count ≤ most_entries) × (g ≤ r) × (r ≤ length buffer.old) × (from + length buffer.old ≤ file_end) }
-    ensures { buffer.new ≡ filled (writes_for node bytes.now ring (take count held)) from g r buffer.old }
-{
-    overlay_blocks(bytes, ring, held, count, node, from, &mut buffer[0..g]);
-    zero_and_overlay(bytes, ring, held, count, node, from + g, &mut buffer[g..r]);
+    let reach = end.saturating_sub(offset as u64) as usize;
+    g.max(n.min(reach))
 }
 
 // ---- the call
 
-// Fills a read, on a ring and a state that passed the judge.
+// Fills a read, on a ring and a state that passed the judge. What is asked comes place by place, as the host's call has it and `fill_read` takes it:
+// a struct of it would be made in `fill` and taken apart in each contract.
 fn fill_known(
     bytes: &[u8],
-    s: State,
-    ring: Ring,
-    held: [Held; Ring::ENTRIES],
-    count: usize,
+    s: &State,
+    judged: &Judged,
     pin: u64,
     node: u32,
     offset: u32,
     fetched: usize,
     buffer: &mut [u8],
-) -> Filled
-    requires { Known bytes.now s ring count held }
-    ensures { lent_by (said_fill result) s bytes.now buffer.new ≡ outcome (fill_read pin node offset fetched buffer.old) bytes.now s }
+) -> Result<usize, Reason>
+    requires { Known bytes.now s.now judged.now }
+    ensures { lent_by (said_fill result) s.now bytes.now buffer.new ≡ outcome (fill_read pin node offset fetched buffer.old) bytes.now s.now }
 {
+    may_fill(s, pin, node, offset, fetched, buffer)?;
     let n = buffer.len();
-    let may = may_fill(s, pin, node, offset, fetched, buffer);
-    if let May::Refused(why) = may {
-        return Filled::Refused(why);
-    }
-    let end = state::end_of(held, count, node);
+    let held = judged.held();
+    let end = state::end_of(judged.held, judged.count, node);
     let r = count_of(n, fetched, offset, end);
-    fill_bytes(
+    let layer = Layer {
         bytes,
-        ring,
+        ring: judged.ring,
         held,
-        count,
         node,
-        offset as usize,
-        fetched,
-        r,
-        buffer,
-    );
-    Filled::Count(r)
+    };
+    layer.fill_bytes(offset as usize, fetched, r, buffer);
+    Ok(r)
 }
 
 // Fills a read: lays what is held over what was fetched.
+#[tactic(auto, using(rules::proofs::Judging::known, rules::proofs::Judging::judge_refuses, crate::proofs::Filling::judges_fill))]
 pub fn fill(
     bytes: &[u8],
-    s: State,
+    s: &State,
     pin: u64,
     node: u32,
     offset: u32,
     fetched: usize,
     buffer: &mut [u8],
-) -> Filled
-    ensures { lent_by (said_fill result) s bytes.now buffer.new ≡ outcome (fill_read pin node offset fetched buffer.old) bytes.now s }
+) -> Result<usize, Reason>
+    ensures { lent_by (said_fill result) s.now bytes.now buffer.new ≡ outcome (fill_read pin node offset fetched buffer.old) bytes.now s.now }
 {
-    let judged = judge::judge(bytes, s);
-    let verdict = judged.verdict;
-    let held = judged.held;
-    match verdict {
-        Verdict::Refused(why) => Filled::Refused(why),
-        Verdict::Fits(ring) => fill_known(
-            bytes,
-            s,
-            ring,
-            held,
-            judged.count,
-            pin,
-            node,
-            offset,
-            fetched,
-            buffer,
-        ),
-    }
+    let judged = judge::judge(bytes, *s)?;
+    fill_known(bytes, s, &judged, pin, node, offset, fetched, buffer)
 }

@@ -1,29 +1,41 @@
 -- `fill::fill_known` meets its contract: the laws of `Filling`.
+use Rattle.std.proofs.lemmas.Result.{err_from_is_err_and}
+use mathlib.Core.Path.{◌∙◌, ap}
 use native.Mathlib.Omega.{arith}
+use lib.ListN.{length}
+use Rattle.rules.specs.Fill.{writes_for, filled}
 use Rattle.rules.proofs.Owning.{sure}
 use Rattle.fill.proofs.Filling.{fill_refused, fits, fill_done_law}
 use Rattle.fill.proofs.fill_known.Goals as goal
 
-pub returns-in-Refused : goal.returns-in-Refused
-returns-in-Refused c = let a = c.args in
-    fill_refused a.bytes.now a.s _ _ _ c.requires a.pin a.node a.offset a.fetched a.buffer.now _ c.may_fill-may.ensures _ c.in-Refused.is
+pub returns-in_err-may_fill : goal.returns-in_err-may_fill
+returns-in_err-may_fill c = let a = c.args in
+    let p = err_from_is_err_and c.from_residual.result c.from_residual.ensures.1 in
+    rw (p.1, p.2) (fill_refused a.bytes.now a.s.now a.judged.now c.requires a.pin a.node a.offset a.fetched a.buffer.now _ c.in_err-may_fill.ensures)
 
 pub end_of-end-requires : goal.end_of-end-requires
-end_of-end-requires c = (sure c.args.bytes.now c.args.s _ _ _ c.requires).few
+end_of-end-requires c = (sure c.args.bytes.now c.args.s.now _ c.requires).few
 
 pub count_of-r-requires : goal.count_of-r-requires
 count_of-r-requires c = let a = c.args in
-    (fits a.bytes.now a.s _ _ _ c.requires a.pin a.node a.offset a.fetched a.buffer.now _ c.may_fill-may.ensures c.in_default.is).1
+    (fits a.bytes.now a.s.now _ c.requires a.pin a.node a.offset a.fetched a.buffer.now _ c.in_ok-may_fill.ensures).1
+
+pub held-held-requires : goal.held-held-requires
+held-held-requires c = (sure c.args.bytes.now c.args.s.now _ c.requires).few
+
+pub invariant_of-layer : goal.invariant_of-layer
+invariant_of-layer c = let k = sure c.args.bytes.now c.args.s.now _ c.requires in
+    let n = ap length c.held-held.ensures in
+    (k.sized, omega (arith, n, k.long, k.few))
 
 pub fill_bytes-requires : goal.fill_bytes-requires
 fill_bytes-requires c = let a = c.args in
-    let k = sure a.bytes.now a.s _ _ _ c.requires in
-    let l = c.count_of-r.ensures.1 in
-    let u = c.count_of-r.ensures.2 in
-    let f = fits a.bytes.now a.s _ _ _ c.requires a.pin a.node a.offset a.fetched a.buffer.now _ c.may_fill-may.ensures c.in_default.is in
-    let w = f.1 in
-    record { sized = k.sized; count_le_most_entries = (k.few, omega arith, omega arith, f.0) }
+    let f = fits a.bytes.now a.s.now _ c.requires a.pin a.node a.offset a.fetched a.buffer.now _ c.in_ok-may_fill.ensures in
+    let u = f.1 in
+    let k = c.count_of-r.ensures in
+    (omega (arith, u, k.1, k.2), omega (arith, u, k.1, k.2), f.0)
 
 pub returns : goal.returns
 returns c = let a = c.args in
-    fill_done_law a.bytes.now a.s _ _ _ c.requires a.pin a.node a.offset a.fetched a.buffer.now _ c.may_fill-may.ensures c.in_default.is _ _ _ c.end_of-end.ensures c.count_of-r.ensures.0 c.fill_bytes.ensures
+    fill_done_law a.bytes.now a.s.now _ c.requires a.pin a.node a.offset a.fetched a.buffer.now _ c.in_ok-may_fill.ensures _ _ _ c.end_of-end.ensures c.count_of-r.ensures.0
+    (c.fill_bytes.ensures ∙ ap (λ hs. filled (writes_for a.node a.bytes.now a.judged.now.ring hs) a.offset a.fetched c.count_of-r.result a.buffer.now) c.held-held.ensures)
