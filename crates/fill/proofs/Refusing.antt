@@ -1,10 +1,9 @@
 -- A fill's own refusals, one row at a time, and what a fill that isn't refused keeps. Document 01, "When the box says no".
 use Rattle.std.specs.Prelude.{Option, None, Some, Result, Ok, Err}
-use Rattle.std.specs.List.{list_any}
 use Prim.Native.Nat.{ℕ, ◌+◌, ◌≤◌, ◌<◌}
 use mathlib.Core.Path.{◌≡◌, refl, sym, ap, ◌∙◌}
-use mathlib.Core.Bool.{Bool, true, false, not, ◌||◌}
-use mathlib.Core.List.{List, [], ◌∷◌}
+use mathlib.Core.Bool.{Bool, true, false, not}
+use mathlib.Core.List.{List, []}
 use borrow.Author.Tests.{eq-eqb, ne_eqb, lt-ltb, le-ltb, ltb-false}
 use lib.ListN.{length}
 use lib.Dec.{eqb, ltb}
@@ -15,7 +14,7 @@ use Rattle.layout.specs.Bytes.{both}
 use Rattle.layout.proofs.Tests.{never}
 use Rattle.walk.specs.Walk.{Reading, unreadable}
 use Rattle.state.specs.declared.State.{State}
-use Rattle.state.specs.Lists.{any, pick}
+use Rattle.state.specs.Lists.{pick}
 use Rattle.state.specs.Pins.{has_pin_for}
 use Rattle.rules.specs.Call.{fill_read}
 use Rattle.rules.specs.Fill.{longest_fill}
@@ -34,15 +33,6 @@ same_may a b e = cc
 pub may_some : (x : Option Reason) (why : Reason) → Err why ≡ may_of x → x ≡ Some why
 may_some None why e = never (cc)
 may_some (Some w) why e = ap Some (same_may w why (sym e))
-
--- what a chain of iterators says of any element, in the state's words
-pub any_list : {A : Type 0} (p : A → Bool) (xs : List A) → list_any p xs ≡ any p xs
-any_list p [] = refl
-any_list p (x ∷ xs) = at (p x) (any_list p xs)
-  where
-    at : (b : Bool) → list_any p xs ≡ any p xs → (b || list_any p xs) ≡ pick b true (any p xs)
-    at true e = refl
-    at false e = e
 
 -- rows that aren't given
 rows_none : (x y v w : Bool) → or x NodeZero (or y PastFileEnd (or v NoSuchPin (or w BadBuffer None))) ≡ None → (y ≡ false) × (w ≡ false)

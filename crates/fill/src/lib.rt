@@ -47,7 +47,7 @@ fn any_named(pins: &[Pin], number: u64, node: u32) -> bool
 }
 
 // Whether there is a live pin of that number for that very node.
-#[tactic(auto, using(crate::proofs::Refusing::any_list, std::proofs::lemmas::Bool::Decides::nat_tests), unfolding(layout::specs::Bytes::both))]
+#[tactic(auto, using(state::proofs::Library::any_list, std::proofs::lemmas::Bool::Decides::nat_tests), unfolding(layout::specs::Bytes::both))]
 fn is_pinned(pins: &[Pin], number: u64, node: u32) -> bool
     ensures { result ≡ both (ltb 0 number) (has_pin_for number node pins.now) }
 {
@@ -239,7 +239,7 @@ fn fill_known(
     may_fill(s, pin, node, offset, fetched, buffer)?;
     let n = buffer.len();
     let held = judged.held();
-    let end = state::end_of(judged.held, judged.count, node);
+    let end = state::end_of(held, node);
     let r = count_of(n, fetched, offset, end);
     let layer = Layer {
         bytes,
@@ -264,6 +264,6 @@ pub fn fill(
 ) -> Result<usize, Reason>
     ensures { lent_by (said_fill result) s.now bytes.now buffer.new ≡ outcome (fill_read pin node offset fetched buffer.old) bytes.now s.now }
 {
-    let judged = judge::judge(bytes, *s)?;
+    let judged = judge::judge(bytes, s)?;
     fill_known(bytes, s, &judged, pin, node, offset, fetched, buffer)
 }

@@ -3,6 +3,7 @@ use Rattle.std.proofs.lemmas.Result.{err_from_is_err_and}
 use mathlib.Core.Path.{◌∙◌, ap}
 use native.Mathlib.Omega.{arith}
 use lib.ListN.{length}
+use Rattle.state.specs.Asks.{cached_end}
 use Rattle.rules.specs.Fill.{writes_for, filled}
 use Rattle.rules.proofs.Owning.{sure}
 use Rattle.fill.proofs.Filling.{fill_refused, fits, fill_done_law}
@@ -12,9 +13,6 @@ pub returns-in_err-may_fill : goal.returns-in_err-may_fill
 returns-in_err-may_fill c = let a = c.args in
     let p = err_from_is_err_and c.from_residual.result c.from_residual.ensures.1 in
     rw (p.1, p.2) (fill_refused a.bytes.now a.s.now a.judged.now c.requires a.pin a.node a.offset a.fetched a.buffer.now _ c.in_err-may_fill.ensures)
-
-pub end_of-end-requires : goal.end_of-end-requires
-end_of-end-requires c = (sure c.args.bytes.now c.args.s.now _ c.requires).few
 
 pub count_of-r-requires : goal.count_of-r-requires
 count_of-r-requires c = let a = c.args in
@@ -37,5 +35,5 @@ fill_bytes-requires c = let a = c.args in
 
 pub returns : goal.returns
 returns c = let a = c.args in
-    fill_done_law a.bytes.now a.s.now _ c.requires a.pin a.node a.offset a.fetched a.buffer.now _ c.in_ok-may_fill.ensures _ _ _ c.end_of-end.ensures c.count_of-r.ensures.0
+    fill_done_law a.bytes.now a.s.now _ c.requires a.pin a.node a.offset a.fetched a.buffer.now _ c.in_ok-may_fill.ensures _ _ _ (c.end_of-end.ensures ∙ ap (cached_end a.node) c.held-held.ensures) c.count_of-r.ensures.0
     (c.fill_bytes.ensures ∙ ap (λ hs. filled (writes_for a.node a.bytes.now a.judged.now.ring hs) a.offset a.fetched c.count_of-r.result a.buffer.now) c.held-held.ensures)
