@@ -10,7 +10,7 @@ use lib.Seq.{take_all, take-append-le, drop-append-le, take-append-add, drop-app
 use Rattle.std.proofs.lemmas.List.{take-replicate, drop-replicate}
 use borrow.Rule.Slice.PartMut.{put_mid}
 use Rattle.layout.specs.Sizes.{slot_size, head_size, slots_of, filler_of}
-use Rattle.layout.proofs.Tests.{lt_or_le}
+use Rattle.std.proofs.lemmas.Bool.{cases_lt}
 use Rattle.walk.specs.declared.Entry.{Entry}
 use Rattle.image.specs.Image.{head_bytes, entry_bytes, slot_bytes}
 use Rattle.image.proofs.Stored.{head_length}
@@ -23,7 +23,7 @@ window : (bs : List ℕ) (a m fill count : ℕ) → a ≤ length bs → count �
 window bs a m fill count h o r =
     let d = length-drop a bs in
     let open' : take m (drop a (bs ++ zeros fill)) ≡ take m (drop a bs ++ zeros fill) = ap (take m) (drop-append-le a bs (zeros fill) h) in
-    open' ∙ at (lt_or_le (length bs - a) m)
+    open' ∙ at (cases_lt (length bs - a) m)
   where
     at : (length bs - a < m) ⊎ (m ≤ length bs - a) → take m (drop a bs ++ zeros fill) ≡ take count (drop a bs) ++ zeros (m - count)
     at (inr l) =

@@ -12,7 +12,7 @@ use Rattle.std.proofs.lemmas.Slice.{put_mid-paste}
 use Rattle.std.proofs.lemmas.List.Edits.{sets-eq}
 use Rattle.layout.specs.Sizes.{header_size, span_of}
 use Rattle.layout.specs.Bytes.{Sized, flat, round, put, Same}
-use Rattle.layout.proofs.Tests.{lt_or_le}
+use Rattle.std.proofs.lemmas.Bool.{cases_lt}
 use Rattle.layout.proofs.Views.{in_ring, run_place}
 
 pub length_put : (bs r : List ℕ) (n p : ℕ) → length (put r n p bs) ≡ length r
@@ -75,7 +75,7 @@ mod_apart a b m l h e =
     ⊎_elim
     (λ lt. let k = mul-le-mul_right m lt in omega (arith, suc-mul (a / m) m, k, x, y, e))
     (λ le. let k = mul-le-mul_right m le in omega (arith, k, x, y, e))
-    (lt_or_le (a / m) (b / m))
+    (cases_lt (a / m) (b / m))
 
 round_set_same : (r : List ℕ) (n p b : ℕ) → Sized r n → round (set r (header_size + (p % span_of n)) b) n p ≡ b
 unfolding round

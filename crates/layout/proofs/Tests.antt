@@ -1,13 +1,13 @@
 -- Tests taken apart: what the layers' rules, written as `both t (both u ..)`, say of their parts.
 use Prim.Native.Nat.{ℕ, ◌≤◌, ◌<◌}
 use mathlib.Core.Path.{◌≡◌, refl}
-use mathlib.Core.Logic.{◌⊎◌, inl, inr}
+use mathlib.Core.Logic.{◌⊎◌}
 use mathlib.Core.List.{List}
 use mathlib.Core.Bool.{Bool, true, false}
 use native.Mathlib.Omega.{arith}
 use lib.ListN.{length}
-use lib.Dec.{ltb}
-use borrow.Author.Tests.{ltb-true, ltb-false, leb-true, le-leb, eqb-true, eq-eqb}
+use borrow.Author.Tests.{leb-true, le-leb, eqb-true, eq-eqb}
+use Rattle.std.proofs.lemmas.Bool.{cases_lt}
 use Rattle.layout.specs.Bytes.{both, is_ring_length, Sized}
 
 -- a case that can't be: two constructors are never equal
@@ -38,13 +38,9 @@ unfolding both
 both_ext true b b' k = k refl
 both_ext false b b' k = refl
 
-by_test : (a b : ℕ) (t : Bool) → ltb a b ≡ t → (a < b) ⊎ (b ≤ a)
-by_test a b true e = inl (ltb-true a b e)
-by_test a b false e = inr (ltb-false a b e)
-
--- one order or the other
+-- one order or the other: the library's `cases_lt`, under the name that the proofs above cite
 pub lt_or_le : (a b : ℕ) → (a < b) ⊎ (b ≤ a)
-lt_or_le a b = by_test a b (ltb a b) refl
+lt_or_le a b = cases_lt a b
 
 -- the length that a ring has
 

@@ -11,7 +11,7 @@ use lib.ListN.{length, take, drop, replicate, length-drop, length-replicate, dro
 use lib.Seq.{length-take-le, take_at}
 use Rattle.layout.specs.Sizes.{header_size, span_of}
 use Rattle.layout.specs.Bytes.{Sized, round, bytes_at, put}
-use Rattle.layout.proofs.Tests.{lt_or_le}
+use Rattle.std.proofs.lemmas.Bool.{cases_lt}
 use Rattle.layout.proofs.Views.{bytes_length, bytes_append, round_bytes}
 use Rattle.layout.proofs.Puts.{put_append, put_run, length_put, sized_as}
 
@@ -42,7 +42,7 @@ module _ (r : List ℕ) (n p : ℕ) (l : List ℕ) (start left : ℕ) (z : Sized
       let s : header_size + ((p + left) % span_of n) ≡ header_size = omega arith in
       ap (λ x. take (length l - left) (drop x r)) (sym s) ∙ round_bytes r n (p + left) (length l - left) z (omega arith))
       (λ h. let e : length l - left ≡ 0 = omega arith in rw e)
-      (lt_or_le (span_of n - (p % span_of n)) (length l))
+      (cases_lt (span_of n - (p % span_of n)) (length l))
 
   pub taken_two : (j k : ℕ) (ys zs : List ℕ) → j ≡ left → k ≡ length l - left → ys ≡ take j (drop start r) → zs ≡ take k (drop header_size r)
       → put_mid left (length (ys ++ drop left l) - left) (put_mid 0 left l ys) zs ≡ bytes_at (round r n) p (length l)
@@ -80,7 +80,7 @@ module _ (bs r : List ℕ) (n p start left : ℕ) (z : Sized r n) (fits : length
       let e : length bs - left ≡ 0 = omega arith in
       let d : drop left bs ≡ [] = drop_of_length-le bs (omega arith) in
       rw (e, d) (take-append-drop header_size (put r n p (take left bs))))
-      (lt_or_le (span_of n - (p % span_of n)) (length bs))
+      (cases_lt (span_of n - (p % span_of n)) (length bs))
 
   pub put_two : (j k : ℕ) (ys zs : List ℕ) → j ≡ left → k ≡ length bs - left → ys ≡ take left bs → zs ≡ drop left bs
       → put_mid header_size k (put_mid start j r ys) zs ≡ put r n p bs

@@ -138,7 +138,7 @@ pub fn put_bytes(bytes: &mut [u8], n: usize, p: usize, src: &[u8])
     bytes[Ring::HEADER..Ring::HEADER + rest].copy_from_slice(&src[left..]);
 }
 
-// Stores count zeros at place p of n slots, round the end.
+// Stores count zeros at place p of n slots, round the end. Not `put_bytes` of zeros: those would have to lie somewhere, as many as a ring has bytes.
 pub fn put_zeros(bytes: &mut [u8], n: usize, p: usize, count: usize)
     requires sized { Sized bytes.old n }
     requires p_bound { (p ≤ span_of n + span_of n) × (count ≤ span_of n) }

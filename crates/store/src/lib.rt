@@ -72,6 +72,7 @@ pub fn store(bytes: &mut [u8], n: usize, entry: Entry, src: &[u8])
 }
 
 // Moves the head on to a slot.
+#[tactic(auto, unfolding(crate::specs::Store::head_moved))]
 pub fn move_head(bytes: &mut [u8], slot: usize)
     requires { (header_size ≤ length bytes.old) × (slot ≤ most_slots) }
     ensures { bytes.new ≡ head_moved bytes.old slot }

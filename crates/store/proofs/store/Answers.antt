@@ -1,21 +1,10 @@
 -- `store::store` meets its contract. Head, bytes and filler are one run of bytes, cut in three (Stored, `stored_by`); the tail byte comes last.
-use Prim.Native.Nat.{◌+◌, ◌*◌, ◌<◌}
+use Prim.Native.Nat.{◌*◌}
 use mathlib.Core.Path.{ap, ◌∙◌}
 use Rattle.layout.specs.Sizes.{slot_size}
 use Rattle.layout.specs.Bytes.{put}
-use native.Mathlib.Nat.{mod-lt}
-use native.Mathlib.Omega.{arith}
-use lib.ListN.{length-set}
 use Rattle.store.proofs.Stored.{stored_by}
 use Rattle.store.proofs.store.Goals as goal
-
-pub overflow_cast-bytes : goal.overflow_cast-bytes
-overflow_cast-bytes c = let a = c.args in
-    let z : 0 < a.n = omega (arith, c.requires.sized.low) in
-    omega (arith, c.tail_after.ensures, mod-lt (a.entry.slot + c.slots-slots.result) z, c.requires.sized.high)
-
-pub shape_of-bytes : goal.shape_of-bytes
-shape_of-bytes c = simp length-set (c.put_zeros.auto.bytes ∙ c.put_bytes-2.auto.bytes ∙ c.put_bytes.auto.bytes)
 
 pub returns : goal.returns
 returns c = let a = c.args in
