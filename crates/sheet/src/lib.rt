@@ -73,6 +73,7 @@ fn is_over(entry: Entry, p: usize) -> bool
 }
 
 // A place after p, at most end, before which a write covers what it covers at p.
+#[tactic(auto, unfolding(shore::specs::Cover::spans, layout::specs::Bytes::both))]
 fn nearer(entry: Entry, p: usize, end: usize) -> usize
     requires { (p < end) × (entry.offset + entry.length ≤ file_end) }
     ensures { Steady (spans entry.offset entry.length) p end result }
@@ -98,6 +99,7 @@ struct Walker<'a> {
 
 impl Walker<'_> {
     // The newest write that covers p, and how far it stays the newest, at most to end.
+    #[tactic(auto, unfolding(crate::specs::Places::top_of))]
     fn find_at(&self, end: usize, p: usize) -> Found
         requires p_lt_end { p < end }
         ensures { FoundAt self.now.entries.now end p result }
