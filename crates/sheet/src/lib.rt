@@ -73,6 +73,7 @@ fn is_over(entry: Entry, p: usize) -> bool
 }
 
 // A place after p, at most end, before which a write covers what it covers at p.
+#[tactic(auto, unfolding(shore::specs::Cover::spans, layout::specs::Bytes::both))]
 fn nearer(entry: Entry, p: usize, end: usize) -> usize
     requires { (p < end) × (entry.offset + entry.length ≤ file_end) }
     ensures { Steady (spans entry.offset entry.length) p end result }
@@ -98,6 +99,7 @@ struct Walker<'a> {
 
 impl Walker<'_> {
     // The newest write that covers p, and how far it stays the newest, at most to end.
+    #[tactic(auto, unfolding(crate::specs::Places::top_of))]
     fn find_at(&self, end: usize, p: usize) -> Found
         requires p_lt_end { p < end }
         ensures { FoundAt self.now.entries.now end p result }
@@ -158,12 +160,12 @@ pub fn pieces_of(entries: &[Entry]) -> Pieces
     ensures { result ≡ pieces_from (in_order (grow (key_by entries.now) file_end)) }
 {
     let end = Ring::FILE_END as usize;
-    let walk = Walker { entries };
+    let walker = Walker { entries };
     let mut list = ArrayVec::new();
     let mut size = 0;
     let mut at = 0;
-    while let Some(start) = walk.next_start(end, at) {
-        at = walk.piece_end(end, start);
+    while let Some(start) = walker.next_start(end, at) {
+        at = walker.piece_end(end, start);
         let bytes = at - start.place;
         list.push(Piece {
             start: start.place,
@@ -181,23 +183,6 @@ fn put_number(buffer: &mut [u8], at: usize, x: usize)
     ensures { buffer.new ≡ laid_at buffer.old at (bytes4 x) }
 {
     buffer[at..at + 4].copy_from_slice(&x.to_le_bytes()[..4]);
-}
-
-// Paints a write over the places from `start` on: those that it covers get its bytes, the others stay.
-fn put_overlap(bytes: &[u8], n: usize, entry: Entry, start: usize, out: &mut [u8])
-    requires sized { Sized bytes.now n }
-    requires slot_lt_n { (entry.slot < n) × (entry.length ≤ largest) × (entry.offset + entry.length ≤ file_end) }
-    requires out_bound { start + length out.old ≤ file_end }
-    ensures { Painted (round bytes.now n) entry start out.old out.new }
-{
-    let low = entry.offset as usize;
-    let high = low + entry.length as usize;
-    let from = low.max(start);
-    let until = high.min(start + out.len());
-    if from < until {
-        let skip = from - low;
-        walk::entry_bytes(bytes, n, entry, skip, &mut out[from - start..until - start]);
-    }
 }
 
 // The offset and the length of each piece, behind the sheet's first 8 bytes.
@@ -222,13 +207,30 @@ struct Source<'a> {
 }
 
 impl Source<'_> {
+    // Paints a write over the places from `start` on: those that it covers get its bytes, the others stay.
+    fn put_overlap(&self, entry: Entry, start: usize, out: &mut [u8])
+        requires slot_lt_n { (entry.slot < self.now.n) × (entry.length ≤ largest) × (entry.offset + entry.length ≤ file_end) }
+        requires out_bound { start + length out.old ≤ file_end }
+        ensures { Painted (round self.now.bytes.now self.now.n) entry start out.old out.new }
+    {
+        let low = entry.offset as usize;
+        let high = low + entry.length as usize;
+        let from = low.max(start);
+        let until = high.min(start + out.len());
+        if from < until {
+            let skip = from - low;
+            let part = &mut out[from - start..until - start];
+            walk::entry_bytes(self.bytes, self.n, entry, skip, part);
+        }
+    }
+
     // The bytes of a piece: each write is painted over the older ones, so the newest is seen, and no place is searched for.
     fn put_piece(&self, start: usize, out: &mut [u8])
         requires { (start + length out.old ≤ file_end) × Covered self.now.entries.now start (length out.old) }
         ensures { out.new ≡ bytes_at (byte_by (round self.now.bytes.now self.now.n) self.now.entries.now) start (length out.old) }
     {
         for entry in self.entries {
-            put_overlap(self.bytes, self.n, *entry, start, out);
+            self.put_overlap(*entry, start, out);
         }
     }
 

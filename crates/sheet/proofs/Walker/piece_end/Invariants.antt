@@ -1,4 +1,4 @@
--- `sheet::Walker::piece_end` meets its contract: `Through`: all from the start up to e has its key; the end is a place with another key (`ends_other`) or the limit (`ends_full`).
+-- `sheet::Walker::piece_end` meets its contract: `Through`: all from the start up to e has its key; the end is a place with another key, or the limit.
 use Prim.Native.Nat.{◌-◌}
 use Rattle.sheet.specs.Places.{key_by}
 use Rattle.sheet.proofs.Walking.{Through}
