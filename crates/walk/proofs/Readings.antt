@@ -17,7 +17,6 @@ use Rattle.reason.specs.declared.Reason.{Reason}
 use Rattle.reason.specs.declared.Reason.TheVariants.{Unreadable}
 use Rattle.walk.specs.declared.Entry.{Entry}
 use Rattle.walk.specs.declared.Walked.{Walked}
-
 use Rattle.walk.specs.Header.{head_in, tail_in, used_of, ring_in, header_of}
 use Rattle.walk.specs.Entry.{data_of}
 use Rattle.walk.specs.Walk.{walk, start, Reading, readable, unreadable, reads, reading_by, reading_of, answer_of, slots_used, Rising, write_of}
