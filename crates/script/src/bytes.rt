@@ -1,6 +1,7 @@
 // BYTES and BYTE of a script: hex digits, and runs of one byte.
 ghost use Rattle.std.specs.Prelude.{◌≡◌, IfSome};
 ghost use Rattle.script.specs.Digits.{byte_of};
+ghost use Rattle.script.specs.Laid.{Spells};
 
 use crate::word;
 
@@ -26,7 +27,9 @@ pub fn one(word: &[u8]) -> Option<u8>
 }
 
 // The bytes that a word spells, if it spells bytes.
-pub fn bytes_of<'a>(word: &'a [u8]) -> Option<Bytes<'a>> {
+pub fn bytes_of<'a>(word: &'a [u8]) -> Option<Bytes<'a>>
+    ensures { IfSome result (Spells word.now) }
+{
     match word {
         b"-" => Some(Bytes::Digits(b"")),
         [high, low, b'x', count @ ..] => Some(Bytes::Run {

@@ -1,5 +1,5 @@
 // Words of a line, which is split at each space, and the numbers that they are.
-ghost use Rattle.std.specs.Prelude.{◌≡◌, ◌-◌, ◌≤◌, ◌<◌, length, All, IfSome};
+ghost use Rattle.std.specs.Prelude.{◌≡◌, ◌≤◌, ◌<◌, length, All, IfSome};
 ghost use Rattle.script.specs.Within.{Within};
 ghost use Rattle.script.specs.Digits.{spelled};
 
