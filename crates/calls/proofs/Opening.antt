@@ -41,9 +41,9 @@ module _ (r : List ℕ) (s : State) where
   pub reopen_refused : (why : Reason) → Err why ≡ answer_of (reading_of r) → outcome_by (refuses why) s r ≡ outcome reopen_ring r s
   reopen_refused why e = refused_at why (reading_of r) refl e
 
-  pub reopen_done : (w : Walked) (t : State) → Ok w ≡ answer_of (reading_of r) → t ≡ reopened (take w.count w.entries)
+  pub reopen_done : (w : Walked) (t : State) → Ok w ≡ answer_of (reading_of r) → t ≡ reopened w.entries.items
       → outcome_by (says (t.next ∷ [])) t r ≡ outcome reopen_ring r s
-  reopen_done w t e et = rw et (reopens w.ring (take w.count w.entries) (read_entries (reading_of r) w e))
+  reopen_done w t e et = rw et (reopens w.ring w.entries.items (read_entries (reading_of r) w e))
 
 -- ---- make
 

@@ -46,13 +46,13 @@ module _ (r : List ℕ) (s : State) (j : Judged) (k : Known r s j) where
 
   -- ---- ask a ticket
 
-  pub ask_done : (ticket node : ℕ) (b : Bool) → b ≡ ticket_done ticket node (take j.count j.held)
+  pub ask_done : (ticket node : ℕ) (b : Bool) → b ≡ ticket_done ticket node j.held.items
       → outcome_by (says (bit b ∷ [])) s r ≡ outcome (ask_ticket ticket node) r s
   ask_done ticket node b e = sym (judge_passes (ask_ticket ticket node) (judges_ask ticket node) r s j k ∙ rw (own_ask r (readable j.ring k.entries) s ticket node, ← e))
 
   -- ---- whose turn
 
-  pub turn_done : (n : ℕ) → n ≡ turn_of (take j.count j.held) → outcome_by (says (n ∷ [])) s r ≡ outcome ask_turn r s
+  pub turn_done : (n : ℕ) → n ≡ turn_of j.held.items → outcome_by (says (n ∷ [])) s r ≡ outcome ask_turn r s
   turn_done n e = sym (judge_passes ask_turn judges_turn r s j k ∙ rw (own_turn r (readable j.ring k.entries) s, ← e))
 
   -- ---- cached end
@@ -60,7 +60,7 @@ module _ (r : List ℕ) (s : State) (j : Judged) (k : Known r s j) where
   pub end_zero : (node : ℕ) → node ≡ 0 → outcome_by (refuses NodeZero) s r ≡ outcome (ask_end node) r s
   end_zero node e = sym (judge_passes (ask_end node) (judges_end node) r s j k ∙ rw (own_end r (readable j.ring k.entries) s node, eq-eqb node 0 e))
 
-  pub end_done : (node n : ℕ) → (node ≡ 0 → ⊥) → n ≡ cached_end node (take j.count j.held) → outcome_by (says (n ∷ [])) s r ≡ outcome (ask_end node) r s
+  pub end_done : (node n : ℕ) → (node ≡ 0 → ⊥) → n ≡ cached_end node j.held.items → outcome_by (says (n ∷ [])) s r ≡ outcome (ask_end node) r s
   end_done node n z e = sym (judge_passes (ask_end node) (judges_end node) r s j k ∙ rw (own_end r (readable j.ring k.entries) s node, ne_eqb node 0 z, ← e))
 
   -- ---- pin
@@ -73,7 +73,7 @@ module _ (r : List ℕ) (s : State) (j : Judged) (k : Known r s j) where
     pin_number n =
         sym (judge_passes (pin node) (judges_pin node) r s j k ∙ rw (own_pin r (readable j.ring k.entries) s node, place_some s.pins 0 place e.0 e.1, eq-eqb s.next number_limit n))
 
-    pub pin_done_law : (s.next ≡ number_limit → ⊥) → (mark : ℕ) → mark ≡ mark_of node s.next (take j.count j.held)
+    pub pin_done_law : (s.next ≡ number_limit → ⊥) → (mark : ℕ) → mark ≡ mark_of node s.next j.held.items
         → outcome_by (says (s.next ∷ [])) (with_next (with_pins s (set s.pins place (record { number = s.next; mark = mark; node = node }))) (s.next + 1)) r
         ≡ outcome (pin node) r s
     pin_done_law n mark m =

@@ -31,7 +31,7 @@ pub fn ask_ticket(bytes: &[u8], s: &State, ticket: u64, node: u32) -> Result<boo
     ensures { outcome_by (said_ticket result) s.now bytes.now ≡ outcome (ask_ticket ticket node) bytes.now s.now }
 {
     let judged = judge::judge(bytes, s)?;
-    Ok(state::is_done(judged.held(), ticket, node))
+    Ok(state::is_done(judged.held.as_slice(), ticket, node))
 }
 
 // The node of the lowest-numbered Unflushed write, or 0.
@@ -39,7 +39,7 @@ pub fn whose_turn(bytes: &[u8], s: &State) -> Result<u32, Reason>
     ensures { outcome_by (said_turn result) s.now bytes.now ≡ outcome ask_turn bytes.now s.now }
 {
     let judged = judge::judge(bytes, s)?;
-    Ok(state::turn_of(judged.held()))
+    Ok(state::turn_of(judged.held.as_slice()))
 }
 
 // The end that a node's file has at least, once its writes are laid on.
@@ -50,7 +50,7 @@ pub fn cached_end(bytes: &[u8], s: &State, node: u32) -> Result<u64, Reason>
     if node == 0 {
         return Err(Reason::NodeZero);
     }
-    Ok(state::end_of(judged.held(), node))
+    Ok(state::end_of(judged.held.as_slice(), node))
 }
 
 // Pins a node, or all: what is in reach stays in the ring until unpinned, from the mark on.
@@ -65,7 +65,7 @@ pub fn pin(bytes: &[u8], s: &mut State, node: u32) -> Result<u64, Reason>
     if number == Ring::NUMBERS {
         return Err(Reason::NoNumber);
     }
-    let mark = state::mark_of(judged.held(), node, number);
+    let mark = state::mark_of(judged.held.as_slice(), node, number);
     s.pins[place] = Pin { number, mark, node };
     s.next = number + 1;
     Ok(number)
@@ -84,7 +84,7 @@ pub fn report(bytes: &mut [u8], s: &mut State, number: u64, good: bool) -> Resul
     ensures { outcome_by (said_done result) s.new bytes.new ≡ outcome (report number good) bytes.old s.old }
 {
     let judged = judge::judge(bytes, s)?;
-    change::report_known(bytes, s, &judged, number, good)
+    change::report_known(bytes, s, judged, number, good)
 }
 
 // The state of a ring as it is reopened: every entry Unflushed.
@@ -92,7 +92,7 @@ pub fn reopen(bytes: &[u8], s: &mut State) -> Result<u64, Reason>
     ensures { outcome_by (said_number result) s.new bytes.now ≡ outcome reopen_ring bytes.now s.old }
 {
     let walked = walk::read(bytes)?;
-    *s = state::reopen_state(walked.entries());
+    *s = state::reopen_state(walked.entries.as_slice());
     Ok(s.next)
 }
 
@@ -117,5 +117,5 @@ pub fn write(
     ensures { outcome_by (said_number result) s.new bytes.new ≡ outcome (write node handle offset src.now) bytes.old s.old }
 {
     let judged = judge::judge(bytes, s)?;
-    change::write_known(bytes, s, &judged, node, handle, offset, src)
+    change::write_known(bytes, s, judged, node, handle, offset, src)
 }

@@ -3,7 +3,7 @@
 // A write copies its slots once, the others store one byte; nothing here walks the ring.
 #![tactic(auto)]
 
-ghost use Rattle.std.specs.Prelude.{◌≡◌, ◌∷◌, [], ◌++◌, map, true, ◌+◌, ◌≤◌, ◌<◌, length, take};
+ghost use Rattle.std.specs.Prelude.{◌≡◌, ◌∷◌, [], ◌++◌, map, true, ◌+◌, ◌≤◌, ◌<◌, length};
 ghost use Rattle.layout.specs.Sizes.{most_entries, number_limit};
 ghost use Rattle.layout.specs.Bytes.{Sized};
 ghost use Rattle.walk.specs.Walk.{readable, slots_used};
@@ -17,11 +17,12 @@ ghost use Rattle.rules.specs.Outcome.{outcome, outcome_by};
 ghost use Rattle.rules.specs.Known.{Known};
 ghost use Rattle.change.specs.Answers.{said_number, said_done, may_of};
 
+use arrayvec::ArrayVec;
 use judge::Judged;
 use layout::Ring;
 use reason::Reason;
 use state::{Event, Held, Pin, State, UNFLUSHED};
-use walk::Entry;
+use walk::{ENTRIES, Entry};
 
 // Lets the writes that are due leave from the head; the head byte moves on past their slots.
 fn let_go(bytes: &mut [u8], s: &mut State, ring: Ring, held: &[Held])
@@ -53,7 +54,7 @@ pub fn unpin_known(
         return Err(Reason::NoSuchPin);
     };
     s.pins[place] = Pin::default();
-    let_go(bytes, s, judged.ring, judged.held());
+    let_go(bytes, s, judged.ring, judged.held.as_slice());
     Ok(())
 }
 
@@ -61,11 +62,11 @@ pub fn unpin_known(
 pub fn report_known(
     bytes: &mut [u8],
     s: &mut State,
-    judged: &Judged,
+    judged: Judged,
     number: u64,
     good: bool,
 ) -> Result<(), Reason>
-    requires { Known bytes.old s.old judged.now }
+    requires { Known bytes.old s.old judged }
     ensures { outcome_by (said_done result) s.new bytes.new ≡ outcome (report number good) bytes.old s.old }
 {
     if s.flush == 0 {
@@ -75,14 +76,13 @@ pub fn report_known(
         return Err(Reason::NotTheFlush);
     }
     s.flush = 0;
-    let mut moved = judged.held;
-    let held = &mut moved[..judged.count];
+    let mut held = judged.held;
     if good {
-        state::report_all(held, Event::Good);
-        let_go(bytes, s, judged.ring, held);
+        state::report_all(held.as_mut_slice(), Event::Good);
+        let_go(bytes, s, judged.ring, held.as_slice());
     } else {
-        state::report_all(held, Event::Bad);
-        s.relist(held);
+        state::report_all(held.as_mut_slice(), Event::Bad);
+        s.relist(held.as_slice());
     }
     Ok(())
 }
@@ -115,16 +115,15 @@ fn may_write(s: &State, ring: Ring, node: u32, offset: u32, src: &[u8]) -> Resul
 }
 
 // Lists one write more, which takes the next number.
-fn add_write(s: &mut State, mut judged: Judged, entry: Entry)
-    requires { (judged.count < most_entries) × (s.old.next < number_limit) }
-    ensures { s.new ≡ with_next (with_held s.old (take judged.count judged.held ++ record { entry = entry; phase = unflushed } ∷ [])) (s.old.next + 1) }
+fn add_write(s: &mut State, mut held: ArrayVec<Held, ENTRIES>, entry: Entry)
+    requires { (length held.items < most_entries) × (s.old.next < number_limit) }
+    ensures { s.new ≡ with_next (with_held s.old (held.items ++ record { entry = entry; phase = unflushed } ∷ [])) (s.old.next + 1) }
 {
-    let count = judged.count;
-    judged.held[count] = Held {
+    held.push(Held {
         entry,
         phase: UNFLUSHED,
-    };
-    s.relist(&judged.held[..count + 1]);
+    });
+    s.relist(held.as_slice());
     s.next += 1;
 }
 
@@ -132,13 +131,13 @@ fn add_write(s: &mut State, mut judged: Judged, entry: Entry)
 pub fn write_known(
     bytes: &mut [u8],
     s: &mut State,
-    judged: &Judged,
+    judged: Judged,
     node: u32,
     handle: u32,
     offset: u32,
     src: &[u8],
 ) -> Result<u64, Reason>
-    requires { Known bytes.old s.old judged.now }
+    requires { Known bytes.old s.old judged }
     ensures { outcome_by (said_number result) s.new bytes.new ≡ outcome (write node handle offset src.now) bytes.old s.old }
 {
     let ring = judged.ring;
@@ -154,6 +153,6 @@ pub fn write_known(
         slot: ((ring.head + ring.used) % ring.n) as u32,
     };
     store::store(bytes, ring.n, entry, src);
-    add_write(s, *judged, entry);
+    add_write(s, judged.held, entry);
     Ok(number)
 }

@@ -238,7 +238,7 @@ fn fill_known(
 {
     may_fill(s, pin, node, offset, fetched, buffer)?;
     let n = buffer.len();
-    let held = judged.held();
+    let held = judged.held.as_slice();
     let end = state::end_of(held, node);
     let r = count_of(n, fetched, offset, end);
     let layer = Layer {

@@ -43,7 +43,7 @@ judges_start node b = record { reads = refl; fits = refl }
 
 module _ (r : List ℕ) (s : State) (j : Judged) (k : Known r s j) (node : ℕ) where
   abbrev hs : List Held
-  hs = take j.count j.held
+  hs = j.held.items
 
   module _ (es : List Entry) (e : es ≡ map entry_of (batch_of node hs)) where
     batch_counted : length es ≡ length (batch_of node hs)
@@ -94,7 +94,7 @@ module _ (r : List ℕ) (s : State) (j : Judged) (k : Known r s j) (node : ℕ) 
         (or (ltb 0 s.flush) FlushUnderWay
         (or (both (has_batch node hs) (eqb s.next number_limit)) NoNumber
         (or (both (has_batch node hs) (ltb (length b) (length (sheet_for node r j.ring hs)))) BadBuffer None)))
-    start_own = rw k.front (own_start r (readable j.ring k.entries) s node b)
+    start_own = rw k.held (own_start r (readable j.ring k.entries) s node b)
 
     pub start_zero : node ≡ 0 → lent_by (refuses NodeZero) s r b ≡ outcome (start_flush node b) r s
     start_zero e = sym (judge_passes (start_flush node b) (judges_start node b) r s j k ∙ rw (start_own, eq-eqb node 0 e))

@@ -90,12 +90,8 @@ fn start_known(
     if 0 < s.flush {
         return Err(Reason::FlushUnderWay);
     }
-    let Judged {
-        ring,
-        count,
-        mut held,
-    } = judged;
-    let batch = take_batch(&mut held[..count], node);
+    let Judged { ring, mut held } = judged;
+    let batch = take_batch(held.as_mut_slice(), node);
     if batch.is_empty() {
         return Ok(None);
     }
@@ -105,7 +101,7 @@ fn start_known(
     let Some(length) = sheet::make_sheet(bytes, ring.n, &batch, node, buffer) else {
         return Err(Reason::BadBuffer);
     };
-    Ok(Some(begin(s, &held[..count], length)))
+    Ok(Some(begin(s, held.as_slice(), length)))
 }
 
 // Starts a flush of a node: writes the sheet of its oldest Unflushed writes to the buffer's front, for the host to send.

@@ -8,10 +8,10 @@ use mathlib.Core.List.{List, [], ◌∷◌, ◌++◌, map}
 use native.Mathlib.Omega.{arith}
 use native.Mathlib.Numerals.{add-one}
 use borrow.Author.Tests.{eq-eqb, ne_eqb, eqb-true, ltb-true, lt-ltb, le-ltb}
-use lib.ListN.{length, take, drop, get_or, set}
+use lib.ListN.{length, take, drop, get_or}
 use lib.Seq.{length-take-le, take-suc, take_all, split_at}
 use lib.Dec.{eqb, ltb}
-use Rattle.layout.specs.Sizes.{most_entries, number_limit}
+use Rattle.layout.specs.Sizes.{number_limit}
 use Rattle.layout.specs.Bytes.{both}
 use Rattle.layout.proofs.Tests.{never, both_left, both_right, not_true_false, true_not_false}
 use Rattle.walk.specs.declared.Entry.{Entry}
@@ -23,11 +23,9 @@ use Rattle.state.specs.declared.Held.{Held}
 use Rattle.state.specs.Lists.{pick, any, all, IsPlaceOf, pairs, unflushed, in_flight, flushed, gone, no_listed, no_held, no_pin, holding, entry_of, phase_fits, RisingTo}
 use Rattle.state.specs.Pins.{is_due, pin_place}
 use Rattle.state.proofs.Library.{none_found}
-use Rattle.state.proofs.Loops.{fill_more}
 use Rattle.state.proofs.Bools.{both_intro, yes_both, no_both}
 use Rattle.state.proofs.Pairs.{all_always, all_snoc, all_right, pairs_snoc, pairs_before, none_all}
 use Rattle.judge.specs.Fits.{listed_fits, list_fits, pins_differ, pin_fits, pins_fit, phases_fit, nodes_fit, pair_fits, is_in_flight, flight_fits, head_stays}
-use Rattle.judge.specs.Answers.{padded}
 
 -- ---- entries matched with listed writes
 
@@ -71,22 +69,28 @@ list_zip next (e ∷ es) (w ∷ ws) k = at (listed_fits next e.number w) (list_z
     at true e = e ∙ sym (yes_both _)
     at false e = sym (no_both _)
 
--- the pass that holds the entries: those of the first i stand in front
-module _ (es : List Entry) (ws : List Listed) (k : length es ≡ length ws) (few : length es ≤ most_entries) where
-  pub hold_on : (held : List Held) (i : ℕ) → i < length es → held ≡ padded (holding (take i es) (take i ws))
-      → set held i (record { entry = get_or es i no_entry; phase = (get_or ws i no_listed).phase }) ≡ padded (holding (take (i + 1) es) (take (i + 1) ws))
-  hold_on held i h e =
+-- the pass that holds the entries: those of the first i stand there
+module _ (es : List Entry) (ws : List Listed) (k : length es ≡ length ws) where
+  pub hold_on : (hs hs' : List Held) (i : ℕ) → i < length es → hs ≡ holding (take i es) (take i ws)
+      → hs' ≡ hs ++ record { entry = get_or es i no_entry; phase = (get_or ws i no_listed).phase } ∷ []
+      → hs' ≡ holding (take (i + 1) es) (take (i + 1) ws)
+  hold_on hs hs' i h e a =
       let same : length (take i es) ≡ length (take i ws) = length-take-le i es (omega arith) ∙ sym (length-take-le i ws (omega arith)) in
-      let before = holding (take i es) (take i ws) in
-      let long : length before ≡ i = holding_length (take i es) (take i ws) same ∙ length-take-le i es (omega arith) in
       let one : Held = record { entry = get_or es i no_entry; phase = (get_or ws i no_listed).phase } in
-      let more : holding (take (i + 1) es) (take (i + 1) ws) ≡ before ++ one ∷ [] =
+      let more : holding (take (i + 1) es) (take (i + 1) ws) ≡ holding (take i es) (take i ws) ++ one ∷ [] =
       rw (add-one i, take-suc es i no_entry (omega arith), take-suc ws i no_listed (omega arith))
       (holding_snoc (take i es) (take i ws) (get_or es i no_entry) (get_or ws i no_listed) same) in
-      rw e (fill_more most_entries no_held before i one long (omega arith) ∙ ap padded (sym more))
+      a ∙ ap (λ hs. hs ++ one ∷ []) e ∙ sym more
 
-  pub hold_end : (held : List Held) (i : ℕ) → length es ≤ i → held ≡ padded (holding (take i es) (take i ws)) → held ≡ padded (holding es ws)
-  hold_end held i h e =
+  -- they take no more places than the entries
+  pub hold_room : (hs : List Held) (i : ℕ) → i < length es → hs ≡ holding (take i es) (take i ws) → length hs < length es
+  hold_room hs i h e =
+      let same : length (take i es) ≡ length (take i ws) = length-take-le i es (omega arith) ∙ sym (length-take-le i ws (omega arith)) in
+      let n : length hs ≡ i = ap length e ∙ holding_length (take i es) (take i ws) same ∙ length-take-le i es (omega arith) in
+      omega arith
+
+  pub hold_end : (hs : List Held) (i : ℕ) → length es ≤ i → hs ≡ holding (take i es) (take i ws) → hs ≡ holding es ws
+  hold_end hs i h e =
       let a : take i es ≡ es = take_all i es h in
       let b : take i ws ≡ ws = take_all i ws (omega arith) in
       rw (a, b) at e

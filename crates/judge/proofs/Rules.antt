@@ -1,14 +1,12 @@
 -- "State fits" as a record of its clauses, and what each test of the judge comes to.
-use Prim.Native.Nat.{ℕ, ◌≤◌, ◌-◌}
+use Prim.Native.Nat.{ℕ, ◌≤◌}
 use Rattle.std.specs.Prelude.{Result, Ok, Err}
 use Rattle.std.specs.List.{list_all, zip}
 use mathlib.Core.Path.{◌≡◌, refl, sym, ◌∙◌, ap}
 use mathlib.Core.Bool.{Bool, true, false}
-use mathlib.Core.List.{List, ◌++◌}
-use native.Mathlib.Omega.{arith}
+use mathlib.Core.List.{List}
 use borrow.Author.Tests.{eqb-true, eq-eqb}
-use lib.ListN.{length, take, replicate}
-use lib.Seq.{take_at}
+use lib.ListN.{length}
 use lib.Dec.{eqb}
 use Rattle.layout.specs.Sizes.{most_entries}
 use Rattle.layout.specs.declared.Ring.{Ring}
@@ -16,16 +14,16 @@ use Rattle.layout.proofs.Tests.{both_left, both_right, not_true_false, true_not_
 use Rattle.reason.specs.declared.Reason.{Reason}
 use Rattle.reason.specs.declared.Reason.TheVariants.{StateUnfit}
 use Rattle.walk.specs.declared.Entry.{Entry}
-use Rattle.walk.specs.Walk.{Rising, no_entry, Reading, readable, unreadable, answer_of, reading_of}
+use Rattle.walk.specs.Walk.{Rising, Reading, readable, unreadable, answer_of, reading_of}
 use Rattle.walk.specs.declared.Walked.{Walked}
 use Rattle.walk.proofs.Readings.{answer_refused, reading_sound, entries_few, entries_rise}
 use Rattle.state.specs.declared.State.{State}
-use Rattle.state.specs.declared.Held.{Held}
-use Rattle.state.specs.Lists.{all, holding, listed, phase_fits}
+use Rattle.state.specs.Lists.{holding, listed}
 use Rattle.state.proofs.Bools.{both_intro}
 use Rattle.judge.specs.Fits.{listed_fits, list_fits, next_fits, pins_fit, held_fits, fits}
-use Rattle.judge.specs.Answers.{padded, judged_of}
-use Rattle.judge.proofs.Fitting.{list_zip, holding_length, holding_phases}
+use Rattle.judge.specs.declared.Judged.{Judged}
+use Rattle.judge.specs.Answers.{judged_of}
+use Rattle.judge.proofs.Fitting.{list_zip}
 
 pub record IsFit (es : List Entry) (s : State) : Type 0 where
   pub count : s.count ≡ length es
@@ -76,48 +74,30 @@ module _ (es : List Entry) (s : State) where
   pub unfit_held : held_fits s (holding es (listed s)) ≡ false → fits es s ≡ false
   unfit_held k = not_fit (λ o. true_not_false _ o.held k)
 
-  pub judge_fits : (g : Ring) (held : List Held) → fits es s ≡ true → held ≡ padded (holding es (listed s))
-      → Ok (record { ring = g; count = length es; held = held }) ≡ judged_of (readable g es) s
-  judge_fits g held q e = rw (q, e)
+  pub judge_fits : (g : Ring) (j : Judged) → fits es s ≡ true → j.ring ≡ g → j.held.items ≡ holding es (listed s) → Ok j ≡ judged_of (readable g es) s
+  judge_fits g j q a b = rw (q, ← a, ← b)
 
--- what the code found of the entries es, which it calls es'
-module _ (s : State) (es es' : List Entry) (e : es' ≡ es) (n : s.count ≡ length es') (k : length es' ≡ length (listed s)) where
-  pub listed_by : (b : Bool) → b ≡ list_all (λ x. listed_fits s.next x.0.number x.1) (zip es' (listed s)) → b ≡ list_fits s.next es (listed s)
-  listed_by b o = o ∙ list_zip s.next es' (listed s) k ∙ ap (λ es. list_fits s.next es (listed s)) e
-
-  module _ (held : List Held) (h : held ≡ padded (holding es' (listed s))) where
-    pub held_front : take (length es') held ≡ holding es (listed s)
-    held_front =
-        ap (take (length es')) h ∙ take_at (holding es' (listed s)) _ (length es') (holding_length es' (listed s) k) ∙ ap (λ es. holding es (listed s)) e
-
-    pub held_phases : list_fits s.next es (listed s) ≡ true → all phase_fits (take (length es') held) ≡ true
-    held_phases o = ap (all phase_fits) held_front ∙ holding_phases s.next es (listed s) o
-
-    pub held_by : (b : Bool) → b ≡ held_fits s (take (length es') held) → b ≡ held_fits s (holding es (listed s))
-    held_by b o = o ∙ ap (held_fits s) held_front
-
-    pub judged_by : (g : Ring) → fits es s ≡ true → Ok (record { ring = g; count = length es'; held = held }) ≡ judged_of (readable g es) s
-    judged_by g q = ap (λ es. Ok (record { ring = g; count = length es; held = held })) e ∙ judge_fits es s g held q (h ∙ ap (λ es. padded (holding es (listed s))) e)
+-- what the code finds of the entries, tests one after the other
+module _ (s : State) (es : List Entry) (k : length es ≡ length (listed s)) where
+  pub listed_by : (b : Bool) → b ≡ list_all (λ x. listed_fits s.next x.0.number x.1) (zip es (listed s)) → b ≡ list_fits s.next es (listed s)
+  listed_by b o = o ∙ list_zip s.next es (listed s) k
 
 pub ok_same : {A B : Type 0} (x y : A) → ◌≡◌ {A = Result A B} (Ok x) (Ok y) → x ≡ y
 ok_same x y e = cc
 
 -- ---- from the walk's answer to the reading
 
-pub read_entries : (x : Reading) (w : Walked) → Ok w ≡ answer_of x → x ≡ readable w.ring (take w.count w.entries)
+pub read_entries : (x : Reading) (w : Walked) → Ok w ≡ answer_of x → x ≡ readable w.ring w.entries.items
 read_entries unreadable w e = never (cc)
 read_entries (readable g es) w e =
-    let q : record { ring = g; count = length es; entries = es ++ replicate (most_entries - length es) no_entry } ≡ w = cc in
-    rw (← q) (ap (readable g) (sym (take_at es _ (length es) refl)))
+    let q : record { ring = g; entries = record { items = es } } ≡ w = ok_same _ _ (sym e) in
+    ap (λ (v : Walked). readable v.ring v.entries.items) q
 
 pub read_refused : (x : Reading) (why : Reason) (s : State) → Err why ≡ answer_of x → Err why ≡ judged_of x s
 read_refused unreadable why s e = rw (answer_refused unreadable why (sym e)).1 refl
 read_refused (readable g es) why s e = never (cc)
 
-pub walked_few : (r : List ℕ) (w : Walked) → Ok w ≡ answer_of (reading_of r) → (w.count ≤ most_entries) × Rising 0 (take w.count w.entries)
+pub walked_few : (r : List ℕ) (w : Walked) → Ok w ≡ answer_of (reading_of r) → (length w.entries.items ≤ most_entries) × Rising 0 w.entries.items
 walked_few r w e =
-    let q = read_entries (reading_of r) w e in
-    let k = reading_sound r w.ring (take w.count w.entries) q in
-    let c : w.count ≡ length (take w.count w.entries) = (ap (λ v. v.count) (ok_same _ _ (e ∙ ap answer_of q))) in
-    let f = entries_few k in
-    (omega arith, entries_rise k)
+    let k = reading_sound r w.ring w.entries.items (read_entries (reading_of r) w e) in
+    (entries_few k, entries_rise k)

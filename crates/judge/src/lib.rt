@@ -2,36 +2,26 @@
 // Document 01, "When the box says no", last paragraph. Nothing here stores a byte.
 #![tactic(auto)]
 
-ghost use Rattle.std.specs.Prelude.{◌≡◌, true, false, not, ◌≤◌, ◌<◌, length, take, replicate, eqb};
+ghost use Rattle.std.specs.Prelude.{◌≡◌, true, false, not, ◌≤◌, ◌<◌, length, eqb};
 ghost use Rattle.std.specs.List.{list_all, list_any, zip};
 ghost use Rattle.layout.specs.Sizes.{most_entries};
 ghost use Rattle.layout.specs.Bytes.{both};
 ghost use Rattle.walk.specs.Walk.{readable, reading_of};
-ghost use Rattle.state.specs.Lists.{pick, all, pairs, holding, no_held, phase_fits};
+ghost use Rattle.state.specs.Lists.{pick, all, pairs, holding, phase_fits};
 ghost use Rattle.judge.specs.Fits.{listed_fits, is_in_flight, next_fits, pin_fits, pins_fit, phases_fit, pair_fits, head_stays, held_fits};
-ghost use Rattle.judge.specs.Answers.{padded, judged_of};
+ghost use Rattle.judge.specs.Answers.{judged_of};
 
+use arrayvec::ArrayVec;
 use layout::Ring;
 use reason::Reason;
 use state::{FLUSHED, GONE, Held, IN_FLIGHT, Listed, Pin, State, UNFLUSHED};
-use walk::{Entry, Walked};
+use walk::{ENTRIES, Entry, Walked};
 
-// A ring that can be read, and whose state fits it, with the held writes: count of them, oldest first, and zeros behind them.
-#[derive(Clone, Copy)]
+// A ring that can be read, and whose state fits it, with the held writes, oldest first.
+#[derive(Drop)]
 pub struct Judged {
     pub ring: Ring,
-    pub count: usize,
-    pub held: [Held; Ring::ENTRIES],
-}
-
-impl Judged {
-    // The held writes.
-    pub fn held(&self) -> &[Held]
-        requires { self.now.count ≤ most_entries }
-        ensures { result.now ≡ take self.now.count self.now.held }
-    {
-        &self.held[..self.count]
-    }
+    pub held: ArrayVec<Held, ENTRIES>,
 }
 
 // Whether a listed write has the ring's number, below the next, and is Unflushed, In flight or Flushed.
@@ -51,24 +41,17 @@ fn one_fits(listed: Listed, number: u64, next: u64) -> bool
     true
 }
 
-fn none_held() -> [Held; Ring::ENTRIES]
-    ensures { result ≡ replicate most_entries no_held }
-{
-    let entry = walk::no_entry();
-    [Held { entry, phase: 0 }; Ring::ENTRIES]
-}
-
 // The entries beside their states.
-fn hold(entries: &[Entry], writes: &[Listed]) -> [Held; Ring::ENTRIES]
+fn hold(entries: &[Entry], writes: &[Listed]) -> ArrayVec<Held, ENTRIES>
     requires { (length entries.now ≡ length writes.now) × (length entries.now ≤ most_entries) }
-    ensures { result ≡ padded (holding entries.now writes.now) }
+    ensures { result.items ≡ holding entries.now writes.now }
 {
-    let mut held = none_held();
+    let mut held = ArrayVec::new();
     for (i, entry) in entries.iter().enumerate() {
-        held[i] = Held {
+        held.push(Held {
             entry: *entry,
             phase: writes[i].phase,
-        };
+        });
     }
     held
 }
@@ -207,10 +190,10 @@ fn next_fits(next: u64, flush: u64) -> bool
 
 // The judge of a ring that is readable: the entries are held beside their states, and then judged.
 fn judge_walked(walked: &Walked, s: &State) -> Result<Judged, Reason>
-    requires { walked.now.count ≤ most_entries }
-    ensures { result ≡ judged_of (readable walked.now.ring (take walked.now.count walked.now.entries)) s.now }
+    requires { length walked.now.entries.items ≤ most_entries }
+    ensures { result ≡ judged_of (readable walked.now.ring walked.now.entries.items) s.now }
 {
-    let entries = walked.entries();
+    let entries = walked.entries.as_slice();
     if s.count != entries.len() {
         return Err(Reason::StateUnfit);
     }
@@ -218,21 +201,20 @@ fn judge_walked(walked: &Walked, s: &State) -> Result<Judged, Reason>
     if !list_fits(entries, writes, s.next) {
         return Err(Reason::StateUnfit);
     }
-    let judged = Judged {
-        ring: walked.ring,
-        count: entries.len(),
-        held: hold(entries, writes),
-    };
+    let held = hold(entries, writes);
     if !next_fits(s.next, s.flush) {
         return Err(Reason::StateUnfit);
     }
     if !pins_fit(&s.pins, s.next) {
         return Err(Reason::StateUnfit);
     }
-    if !held_fits(judged.held(), s) {
+    if !held_fits(held.as_slice(), s) {
         return Err(Reason::StateUnfit);
     }
-    Ok(judged)
+    Ok(Judged {
+        ring: walked.ring,
+        held,
+    })
 }
 
 // 8 and 12, for any bytes and any state; the refusals are Unreadable and StateUnfit.

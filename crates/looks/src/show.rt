@@ -135,7 +135,7 @@ fn say_pins(out: &mut Out, s: &State) {
 pub fn say_show(out: &mut Out, bytes: &[u8], s: &State) -> Result<(), Refusal> {
     let judged = judge::judge(bytes, s)?;
     let ring = judged.ring;
-    let held = judged.held.get(..judged.count).unwrap_or(&judged.held);
+    let held = judged.held.as_slice();
     let legend = legend_of(held);
     let mut cells = [FREE; Ring::MOST];
     let cells = &mut cells[..ring.n.min(Ring::MOST)];

@@ -4,8 +4,6 @@ use Prim.Native.Nat.{ℕ}
 use mathlib.Core.Path.{◌≡◌, refl, sym, ◌∙◌, ap}
 use mathlib.Core.Bool.{Bool, true, false}
 use mathlib.Core.List.{List, [], ◌∷◌}
-use lib.ListN.{length, take}
-use lib.Seq.{take_at}
 use Rattle.reason.specs.declared.Reason.{Reason}
 use Rattle.reason.specs.declared.Reason.TheVariants.{Unreadable, StateUnfit}
 use Rattle.layout.specs.Bytes.{both}
@@ -14,13 +12,11 @@ use Rattle.layout.proofs.Tests.{never}
 use Rattle.walk.specs.declared.Entry.{Entry}
 use Rattle.walk.specs.Walk.{Reading, readable, unreadable, reading_of}
 use Rattle.state.specs.declared.State.{State}
-use Rattle.state.specs.declared.Held.{Held}
 use Rattle.state.specs.Lists.{holding, listed}
 use Rattle.judge.specs.declared.Judged.{Judged}
 use Rattle.judge.specs.Fits.{fits}
-use Rattle.judge.specs.Answers.{padded, judged_of}
-use Rattle.judge.proofs.Fitting.{list_length, holding_length}
-use Rattle.judge.proofs.Rules.{fits_sound, ok_same}
+use Rattle.judge.specs.Answers.{judged_of}
+use Rattle.judge.proofs.Rules.{ok_same}
 use Rattle.rules.specs.Call.{Call, makes, reopens, is_one}
 use Rattle.rules.specs.Refusals.{refusal_of, own}
 use Rattle.rules.specs.Outcome.{lent_by, refuses, done_by, unless, outcome}
@@ -34,21 +30,13 @@ pub record Judges (c : Call) : Type 0 where
 -- ---- what the judge says
 
 module _ (r : List ℕ) (s : State) where
-  known_yes : (g : Ring) (es : List Entry) → reading_of r ≡ readable g es → fits es s ≡ true
-      → Known r s (record { ring = g; count = length es; held = padded (holding es (listed s)) })
-  known_yes g es q f =
-      record {
-        entries = es;
-        reading = q;
-        fit = f;
-        counted = refl;
-        front = take_at (holding es (listed s)) _ (length es) (holding_length es (listed s) (list_length s.next es (listed s) (fits_sound es s f).list));
-      }
+  known_yes : (g : Ring) (es : List Entry) → reading_of r ≡ readable g es → fits es s ≡ true → Known r s (record { ring = g; held = record { items = holding es (listed s) } })
+  known_yes g es q f = record { entries = es; reading = q; fit = f; held = refl }
 
   module _ (j : Judged) where
     known_by : (h : Ring) (es : List Entry) (b : Bool) → reading_of r ≡ readable h es → fits es s ≡ b → Ok j ≡ judged_of (readable h es) s → Known r s j
     known_by h es true q f e =
-        let w : record { ring = h; count = length es; held = padded (holding es (listed s)) } ≡ j = ok_same _ _ (sym (rw f at e)) in
+        let w : record { ring = h; held = record { items = holding es (listed s) } } ≡ j = ok_same _ _ (sym (rw f at e)) in
         rw (← w) (known_yes h es q f)
     known_by h es false q f e = never (let w : ◌≡◌ {A = Result Judged Reason} (Ok j) (Err StateUnfit) = (rw f at e) in cc)
 
@@ -75,7 +63,7 @@ module _ (c : Call) (o : Judges c) (r : List ℕ) (s : State) where
 
   refused_by : (why : Reason) (h : Ring) (es : List Entry) (b : Bool) → reading_of r ≡ readable h es → fits es s ≡ b
       → Err why ≡ judged_of (readable h es) s → refusal_of c r s ≡ Some why
-  refused_by why h es true q f e = never (let w : ◌≡◌ {A = Result Judged Reason} (Err why) (Ok (record { ring = h; count = length es; held = padded (holding es (listed s)) })) = (rw f at e) in cc)
+  refused_by why h es true q f e = never (let w : ◌≡◌ {A = Result Judged Reason} (Err why) (Ok (record { ring = h; held = record { items = holding es (listed s) } })) = (rw f at e) in cc)
   refused_by why h es false q f e = unfit_refused h es q f ∙ ap Some (same_reason _ _ (sym (rw f at e)))
 
   refused_at : (why : Reason) (x : Reading) → reading_of r ≡ x → Err why ≡ judged_of x s → refusal_of c r s ≡ Some why
@@ -96,6 +84,6 @@ module _ (c : Call) (o : Judges c) (r : List ℕ) (s : State) (j : Judged) (k : 
   unfolding refusal_of both
   passes = rw (k.reading, o.reads, o.fits, k.fit)
 
-  pub judge_passes : outcome c r s ≡ unless (own c r (readable j.ring k.entries) s) r s c.buffer (done_by c.kind c j.ring k.entries (take j.count j.held) r s)
+  pub judge_passes : outcome c r s ≡ unless (own c r (readable j.ring k.entries) s) r s c.buffer (done_by c.kind c j.ring k.entries j.held.items r s)
   unfolding outcome
-  judge_passes = rw (passes, k.reading, k.front)
+  judge_passes = rw (passes, k.reading, k.held)

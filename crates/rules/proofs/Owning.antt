@@ -6,7 +6,7 @@ use mathlib.Core.Bool.{Bool, true, false, not}
 use mathlib.Core.List.{List, [], ◌∷◌, map}
 use native.Mathlib.Omega.{arith}
 use borrow.Author.Tests.{leb-true, ltb-true, ltb-false, eqb-false}
-use lib.ListN.{length, take}
+use lib.ListN.{length}
 use lib.Dec.{eqb, ltb}
 use Rattle.reason.specs.declared.Reason.{Reason}
 use Rattle.reason.specs.declared.Reason.TheVariants.{NodeZero, BadLength, PastFileEnd, NoRoom, NoNumber, FlushUnderWay, NotTheFlush, NoSuchPin, TooManyPins, BadBuffer}
@@ -157,7 +157,7 @@ holding_inside n [] ws o = tt
 holding_inside n (e ∷ es) [] o = tt
 holding_inside n (e ∷ es) (w ∷ ws) o = (o.0, holding_inside n es ws o.1)
 
-pub sure : (r : List ℕ) (s : State) (j : Judged) → Known r s j → Sure r s j.ring j.count (take j.count j.held)
+pub sure : (r : List ℕ) (s : State) (j : Judged) → Known r s j → Sure r s j.ring (length j.held.items) j.held.items
 sure r s j k =
     let es = k.entries in
     let f = readable_facts r j.ring es k.reading in
@@ -166,15 +166,15 @@ sure r s j k =
     let n = next_facts s.next s.flush o.next in
     let m = used_length es in
     let u = f.used in
-    let c = k.counted in
+    let h = holding_length es (listed s) l in
     let e = f.few in
-    rw k.front
+    rw k.held
     (record {
       sized = f.sized;
       head = f.head;
       free = f.free;
       few = omega arith;
-      long = holding_length es (listed s) l ∙ sym c;
+      long = refl;
       slots = ap slots_used (holding_entries es (listed s) l) ∙ sym u;
       most = omega arith;
       next = n.1;

@@ -55,10 +55,10 @@ module _ (c : Call) (o : Judges c) (r : List ℕ) (s : State) where
 
 module _ (c : Call) (o : Judges c) (r : List ℕ) (s : State) (j : Judged) (k : Known r s j) where
   pub plan_passes : planned c r s
-      ≡ (let out = unless (own c r (readable j.ring k.entries) s) r s c.buffer (done_by c.kind c j.ring k.entries (take j.count j.held) r s) in
-      planned_by out.said out.state (unless_no (own c r (readable j.ring k.entries) s) (plan_by c.kind c j.ring (take j.count j.held) s)))
+      ≡ (let out = unless (own c r (readable j.ring k.entries) s) r s c.buffer (done_by c.kind c j.ring k.entries j.held.items r s) in
+      planned_by out.said out.state (unless_no (own c r (readable j.ring k.entries) s) (plan_by c.kind c j.ring j.held.items s)))
   unfolding outcome plan_of
-  plan_passes = rw (passes c o r s j k, k.reading, k.front)
+  plan_passes = rw (passes c o r s j k, k.reading, k.held)
 
 -- ---- a call that tests 8 and 12, and isn't refused: the ring reads, and the state fits
 

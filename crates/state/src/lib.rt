@@ -91,7 +91,7 @@ pub struct State {
 
 // A write that is held: its entry in the ring beside its state of the four. A report of an event that the table forbids gives it 9
 // (`reported`), so its type bounds no state.
-#[derive(Clone, Copy)]
+#[derive(Clone, Copy, Default)]
 pub struct Held {
     pub entry: Entry,
     pub phase: u8,

@@ -1,17 +1,18 @@
 -- The loop that collects the entries: those passed stand in the array, and what is left of the walk is still to come.
-use Rattle.std.specs.Prelude.{None, Some, Option, Ok}
-use Prim.Native.Nat.{ℕ, suc, ◌+◌, ◌-◌, ◌≤◌, ◌<◌}
+use Rattle.std.specs.Prelude.{None, Some, Option, Ok, Err}
+use Prim.Native.Nat.{ℕ, ◌+◌, ◌-◌, ◌≤◌, ◌<◌}
 use mathlib.Core.Path.{◌≡◌, refl, sym, ap, ◌∙◌}
-use mathlib.Core.List.{List, [], ◌∷◌, ◌++◌, append_assoc, append-nil}
+use mathlib.Core.List.{List, [], ◌∷◌, ◌++◌, append-nil}
 use native.Mathlib.Omega.{arith}
-use lib.ListN.{length, set, replicate, length-append}
-use lib.Seq.{set_at}
+use lib.ListN.{length, length-append}
 use Rattle.layout.specs.Sizes.{slots_of, most_entries}
 use Rattle.layout.specs.declared.Ring.{Ring}
 use Rattle.layout.proofs.Sizes.{slots_some}
+use Rattle.reason.specs.declared.Reason.TheVariants.{Unreadable}
 use Rattle.walk.specs.declared.Entry.{Entry}
+use Rattle.walk.specs.declared.Walked.{Walked}
 use Rattle.walk.specs.Entry.{entry_at}
-use Rattle.walk.specs.Walk.{step_at, more, walk, reads, start, answer_of, no_entry, unreadable}
+use Rattle.walk.specs.Walk.{step_at, more, walk, reads, start, answer_of}
 use Rattle.walk.proofs.Rules.{step_sound}
 use Rattle.walk.proofs.Walks.{walk_end, walk_step, cursor}
 
@@ -32,30 +33,27 @@ after_none : (es : List Entry) → after es None ≡ None
 after_none [] = refl
 after_none (x ∷ es) = ap (more x) (after_none es)
 
-pub record Collecting (f : ℕ → ℕ) (g : Ring) (entries : List Entry) (count place left last : ℕ) : Type 0 where
-  pub passed : List Entry
-  pub counted : count ≡ length passed
-  pub listed : entries ≡ passed ++ replicate (most_entries - count) no_entry
-  pub room : count + left ≤ g.used
+pub record Collecting (f : ℕ → ℕ) (g : Ring) (es : List Entry) (place left last : ℕ) : Type 0 where
+  pub room : length es + left ≤ g.used
   pub where_to : place + left ≡ g.head + g.used
-  pub rest : walk f g.n (start g) ≡ after passed (walk f g.n (cursor place left last))
+  pub rest : walk f g.n (start g) ≡ after es (walk f g.n (cursor place left last))
 
 module _ (f : ℕ → ℕ) (g : Ring) where
-  pub collect_start : Collecting f g (replicate most_entries no_entry) 0 g.head g.used 0
-  collect_start =
-      record { passed = []; counted = refl; listed = refl; room = omega arith; where_to = refl; rest = refl }
+  pub collect_start : (es : List Entry) → es ≡ [] → Collecting f g es g.head g.used 0
+  collect_start es e = rw e (record { room = omega arith; where_to = refl; rest = refl })
 
-  module _ (entries : List Entry) (count place left last : ℕ) (o : Collecting f g entries count place left last) where
-    pub collect_end : left ≤ 0 → Ok (record { ring = g; count = count; entries = entries }) ≡ answer_of (reads g (walk f g.n (start g)))
-    collect_end l =
-        let w : walk f g.n (start g) ≡ Some o.passed =
-        o.rest ∙ ap (after o.passed) (walk_end f g.n (cursor place left last) (omega arith)) ∙ after_some o.passed [] ∙ ap Some (append-nil o.passed) in
-        rw (w, o.listed, o.counted)
+  module _ (es : List Entry) (place left last : ℕ) (o : Collecting f g es place left last) where
+    found_all : left ≤ 0 → walk f g.n (start g) ≡ Some es
+    found_all l =
+        o.rest ∙ ap (after es) (walk_end f g.n (cursor place left last) (omega arith)) ∙ after_some es [] ∙ ap Some (append-nil es)
 
-    pub collect_none : 0 < left → step_at f g.n (cursor place left last) ≡ None → answer_of unreadable ≡ answer_of (reads g (walk f g.n (start g)))
+    pub collect_end : left ≤ 0 → (w : Walked) → w.ring ≡ g → w.entries.items ≡ es → Ok w ≡ answer_of (reads g (walk f g.n (start g)))
+    collect_end l w a b = rw (found_all l, ← a, ← b)
+
+    pub collect_none : 0 < left → step_at f g.n (cursor place left last) ≡ None → Err Unreadable ≡ answer_of (reads g (walk f g.n (start g)))
     collect_none l q =
         let w : walk f g.n (start g) ≡ None =
-        o.rest ∙ ap (after o.passed) (walk_step f g.n (cursor place left last) l ∙ rw q) ∙ after_none o.passed in
+        o.rest ∙ ap (after es) (walk_step f g.n (cursor place left last) l ∙ rw q) ∙ after_none es in
         rw w
 
     module _ (l : 0 < left) (e : Entry) (q : step_at f g.n (cursor place left last) ≡ Some e) where
@@ -65,23 +63,18 @@ module _ (f : ℕ → ℕ) (g : Ring) where
           let w = step_sound f (cursor place left last) (entry_at f g.n place) e q in
           rw (ap (λ (x : Entry). slots_of x.length) w.0) at w.1.fits
 
-      pub collect_step : g.used ≤ most_entries
-          → Collecting f g (set entries count e) (count + 1) (place + slots_of e.length) (left - slots_of e.length) e.number
-      collect_step m =
-          let u = slots_of e.length in
+      pub collect_room : g.used ≤ most_entries → length es < most_entries
+      collect_room m = omega (arith, o.room, l)
+
+      pub collect_step : (es' : List Entry) → es' ≡ es ++ e ∷ [] → Collecting f g es' (place + slots_of e.length) (left - slots_of e.length) e.number
+      collect_step es' a =
           let h = collect_fits in
-          let z : most_entries - count ≡ suc (most_entries - (count + 1)) = omega (arith, o.room) in
-          record {
-            passed = o.passed ++ e ∷ [];
-            counted = rw length-append (omega (arith, o.counted));
-            listed =
-                rw (o.listed, z)
-                (set_at o.passed no_entry (replicate (most_entries - (count + 1)) no_entry) e count (sym o.counted)
-                ∙ sym (append_assoc o.passed (e ∷ []) (replicate (most_entries - (count + 1)) no_entry)));
-            room = omega (arith, o.room, slots_some e.length);
+          rw a
+          (record {
+            room = rw length-append (omega (arith, o.room, slots_some e.length));
             where_to = omega (arith, o.where_to);
             rest =
                 o.rest
-                ∙ ap (after o.passed) (walk_step f g.n (cursor place left last) l ∙ rw q)
-                ∙ sym (after_snoc o.passed e (walk f g.n (cursor (place + u) (left - u) e.number)));
-          }
+                ∙ ap (after es) (walk_step f g.n (cursor place left last) l ∙ rw q)
+                ∙ sym (after_snoc es e (walk f g.n (cursor (place + slots_of e.length) (left - slots_of e.length) e.number)));
+          })

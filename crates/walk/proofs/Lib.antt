@@ -3,4 +3,3 @@ pub mod Walks
 pub mod Chain
 pub mod Collecting
 pub mod Readings
-pub mod Lengths

@@ -1,9 +1,9 @@
 -- The walk from head to tail, and what a ring that can be read holds.
 -- Document 01, "The ring in battery memory", from "It walks from head".
-use Rattle.std.specs.Prelude.{ℕ, zero, suc, ◌+◌, ◌-◌, ◌<◌, ◌≡◌, List, [], ◌∷◌, ◌++◌, map, Bool, true, false, length, replicate, ltb, leb, Option, None, Some, Result, Ok, Err}
+use Rattle.std.specs.Prelude.{ℕ, zero, suc, ◌+◌, ◌-◌, ◌<◌, ◌≡◌, List, [], ◌∷◌, map, Bool, true, false, ltb, leb, Option, None, Some, Result, Ok, Err}
 use Rattle.reason.specs.declared.Reason.{Reason}
 use Rattle.reason.specs.declared.Reason.TheVariants.{Unreadable}
-use Rattle.layout.specs.Sizes.{slots_of, most_entries}
+use Rattle.layout.specs.Sizes.{slots_of}
 use Rattle.layout.specs.Bytes.{round, both}
 use Rattle.layout.specs.declared.Ring.{Ring}
 use Rattle.walk.specs.declared.Entry.{Entry}
@@ -104,10 +104,10 @@ Rising last (e ∷ es) = (last < e.number) × (valid_fields e ≡ true) × Risin
 abbrev pub no_entry : Entry
 no_entry = record { number = 0; node = 0; handle = 0; offset = 0; length = 0; zero = 0; slot = 0 }
 
--- the entries in order, and nothing behind them
+-- the entries in order
 abbrev pub answer_of : Reading → Result Walked Reason
 answer_of unreadable = Err Unreadable
-answer_of (readable g es) = Ok (record { ring = g; count = length es; entries = es ++ replicate (most_entries - length es) no_entry })
+answer_of (readable g es) = Ok (record { ring = g; entries = record { items = es } })
 
 -- ---- the writes that a ring holds
 

@@ -19,6 +19,7 @@ ghost use Rattle.walk.specs.Walk.{
   unreadable,
 };
 
+use arrayvec::ArrayVec;
 use layout::Ring;
 use reason::Reason;
 
@@ -49,22 +50,14 @@ pub struct Cursor {
     pub last: u64,
 }
 
-// A ring that can be read, with its entries: count of them, oldest first, and zeros behind them.
-#[derive(Clone, Copy)]
+// The most entries that a ring holds.
+pub const ENTRIES: usize = Ring::ENTRIES;
+
+// A ring that can be read, with its entries, oldest first, in room for as many as a ring holds: there is no heap.
+#[derive(Drop)]
 pub struct Walked {
     pub ring: Ring,
-    pub count: usize,
-    pub entries: [Entry; Ring::ENTRIES],
-}
-
-impl Walked {
-    // The entries.
-    pub fn entries(&self) -> &[Entry]
-        requires { self.now.count ≤ most_entries }
-        ensures { result.now ≡ take self.now.count self.now.entries }
-    {
-        &self.entries[..self.count]
-    }
+    pub entries: ArrayVec<Entry, ENTRIES>,
 }
 
 // The header, if the bytes have one and are as long as it says.
@@ -213,21 +206,13 @@ pub fn no_entry() -> Entry
     }
 }
 
-fn no_entries() -> [Entry; Ring::ENTRIES]
-    ensures { result ≡ replicate most_entries no_entry }
-{
-    let entry = no_entry();
-    [entry; Ring::ENTRIES]
-}
-
 // The walk from head: where a step yields no entry short of the tail, the answer is no at once.
 fn collect(bytes: &[u8], ring: Ring) -> Result<Walked, Reason>
     requires sized { Sized bytes.now ring.n }
     requires head_lt_n { (ring.head < ring.n) × (ring.used < ring.n) }
     ensures { result ≡ answer_of (reads ring (walk (round bytes.now ring.n) ring.n (start ring))) }
 {
-    let mut entries = no_entries();
-    let mut count = 0;
+    let mut entries = ArrayVec::new();
     let mut place = ring.head;
     let mut left = ring.used;
     let mut last = 0;
@@ -237,17 +222,12 @@ fn collect(bytes: &[u8], ring: Ring) -> Result<Walked, Reason>
             return Err(Reason::Unreadable);
         };
         let slots = Ring::slots(entry.length);
-        entries[count] = entry;
-        count += 1;
+        entries.push(entry);
         place += slots;
         left -= slots;
         last = entry.number;
     }
-    Ok(Walked {
-        ring,
-        count,
-        entries,
-    })
+    Ok(Walked { ring, entries })
 }
 
 // What the bytes hold, whatever they are; the only refusal is Unreadable.

@@ -2,8 +2,7 @@
 use mathlib.Core.Path.{◌≡◌}
 use lib.ListN.{take}
 use Rattle.state.specs.Lists.{holding}
-use Rattle.judge.specs.Answers.{padded}
 use Rattle.judge.proofs.hold.Given as goal
 
 abbrev pub invariant-loop-i : goal.invariant-loop-i
-invariant-loop-i l = l.held ≡ padded (holding (take l.i l.entries) (take l.i l.writes))
+invariant-loop-i l = l.held.items ≡ holding (take l.i l.entries) (take l.i l.writes)

@@ -1,24 +1,28 @@
--- `walk::collect` meets its contract. The invariant `Collecting`: the entries passed stand in the array, and the rest of the walk is still to come.
+-- `walk::collect` meets its contract. The invariant `Collecting`: the rest of the walk is still to come behind the entries passed.
 -- The slots left fall with each entry, which takes one at least.
-use mathlib.Core.Path.{sym, ◌∙◌}
+use mathlib.Core.Path.{refl, sym, ◌∙◌}
 use native.Mathlib.Omega.{arith}
-use Rattle.walk.proofs.Collecting.{collect_start, collect_end, collect_none, collect_fits, collect_step}
+use Rattle.walk.proofs.Collecting.{collect_start, collect_end, collect_none, collect_fits, collect_room, collect_step}
 use Rattle.walk.proofs.collect.Goals as goal
 
 pub loop-left-init : goal.loop-left-init
-loop-left-init c = rw c.no_entries-entries.ensures (collect_start _ _)
+loop-left-init c = collect_start _ _ _ c.new-entries.ensures
 
 pub returns-in_default : goal.returns-in_default
 returns-in_default c = let l = c.loop-left in
-    collect_none _ _ _ _ _ _ _ l.invariant c.loop-left-test.true (sym c.step_at-step.ensures ∙ c.in_default.is)
+    collect_none _ _ _ _ _ _ l.invariant c.loop-left-test.true (sym c.step_at-step.ensures ∙ c.in_default.is)
 
 pub overflow_sub-left : goal.overflow_sub-left
 overflow_sub-left c = let l = c.loop-left in
-    omega (arith, c.slots-slots.ensures, collect_fits _ _ _ _ _ _ _ l.invariant c.loop-left-test.true c.in-Some.entry (sym c.step_at-step.ensures ∙ c.in-Some.is))
+    omega (arith, c.slots-slots.ensures, collect_fits _ _ _ _ _ _ l.invariant c.loop-left-test.true c.in-Some.entry (sym c.step_at-step.ensures ∙ c.in-Some.is))
+
+pub push-requires : goal.push-requires
+push-requires c = let l = c.loop-left in
+    (omega arith, collect_room _ _ _ _ _ _ l.invariant c.loop-left-test.true c.in-Some.entry (sym c.step_at-step.ensures ∙ c.in-Some.is) (omega arith))
 
 pub loop-left-preserved : goal.loop-left-preserved
 loop-left-preserved c = let l = c.loop-left in
-    rw c.slots-slots.ensures (collect_step _ _ _ _ _ _ _ l.invariant c.loop-left-test.true c.in-Some.entry (sym c.step_at-step.ensures ∙ c.in-Some.is) (omega arith))
+    rw c.slots-slots.ensures (collect_step _ _ _ _ _ _ l.invariant c.loop-left-test.true c.in-Some.entry (sym c.step_at-step.ensures ∙ c.in-Some.is) _ c.push.ensures.items)
 
 pub returns : goal.returns
-returns c = collect_end _ _ _ _ _ _ _ c.loop-left.invariant (omega arith)
+returns c = collect_end _ _ _ _ _ _ c.loop-left.invariant (omega arith) _ refl refl

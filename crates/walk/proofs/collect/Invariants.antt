@@ -5,7 +5,7 @@ use Rattle.walk.proofs.Collecting.{Collecting}
 use Rattle.walk.proofs.collect.Given as goal
 
 abbrev pub invariant-loop-left : goal.invariant-loop-left
-invariant-loop-left l = Collecting (round l.bytes l.ring.n) l.ring l.entries l.count l.place l.left l.last
+invariant-loop-left l = Collecting (round l.bytes l.ring.n) l.ring l.entries.items l.place l.left l.last
 
 abbrev pub decreases-loop-left : goal.decreases-loop-left
 decreases-loop-left l = l.left
