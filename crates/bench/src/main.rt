@@ -7,28 +7,14 @@ mod damage;
 mod reading;
 mod run;
 
-use call::LONGEST;
-use looks::output;
+use looks::output::Out;
+use reading::Script;
+use run::Bench;
 use std::io;
 
-const LONGEST_LINE: usize = 300000;
-
 fn main(rt: HostRuntime) -> io::Result<()> {
-    let mut room = [0u8; LONGEST_LINE];
-    let mut store = [0u8; LONGEST];
-    let mut lent = [0u8; LONGEST];
-    let mut script = reading::script_of(rt.stdin());
-    let mut out = output::begin(rt.stdout());
-    let last = reading::read_all(
-        &mut script,
-        &mut room,
-        &mut store,
-        &mut lent,
-        &mut out,
-        reading::begin(),
-    );
-    let bench = last.bench;
-    output::send(&mut out, bench.waiting);
-    script.failed?;
-    out.failed
+    let mut bench = Bench::new(Out::new(rt.stdout()));
+    let read = Script::new(rt.stdin()).run(&mut bench);
+    let written = bench.finish();
+    read.and(written)
 }

@@ -1,55 +1,45 @@
-// What a command answers, if that is one line of numbers.
-use crate::output;
-use crate::output::Out;
-use reason::Reason;
-use state::State;
+// What a command answers, if that is one line of numbers, and why it may have no answer.
+ghost use Rattle.std.specs.Prelude.{◌≡◌, Some};
+ghost use Rattle.looks.specs.Said.{said};
+ghost use Rattle.looks.specs.declared.answer.Refusal.TheVariants.{Refused};
 
-#[derive(Drop)]
+use reason::Reason;
+use std::fmt;
+
+#[derive(Clone, Copy)]
 pub enum Answer {
     Done,
     Number(u64),
     Pair(u64, u64),
     Nothing,
+}
+
+// Why a line has no answer.
+#[derive(Clone, Copy)]
+pub enum Refusal {
+    // The library refused the call.
     Refused(Reason),
     // The line is no command.
-    Not,
+    NoCommand,
 }
 
-// An answer beside the state, since an enum can't hold the state's arrays.
-#[derive(Drop)]
-pub struct Answered {
-    pub state: State,
-    pub answer: Answer,
+impl fmt::Display for Answer {
+    ghost output = { λ answer. Some (said answer) };
+
+    fn fmt<W: fmt::Write>(&self, f: &mut fmt::Formatter<W>) -> fmt::Result {
+        match self {
+            Answer::Done => f.write_str("ok"),
+            Answer::Number(x) => write!(f, "ok {x}"),
+            Answer::Pair(x, y) => write!(f, "ok {x} {y}"),
+            Answer::Nothing => f.write_str("nothing"),
+        }
+    }
 }
 
-pub fn reply(state: State, answer: Answer) -> Answered {
-    Answered { state, answer }
-}
+impl From<Reason> for Refusal {
+    ghost from_gives = { λ why refusal. refusal ≡ Refused why };
 
-fn say_pair(out: &mut Out, at: usize, x: u64, y: u64) -> usize {
-    let at = output::say_number(out, at, b"ok ", x);
-    let at = output::say_number(out, at, b" ", y);
-    output::say(out, at, b"\n")
-}
-
-// A line of some text and a number.
-pub fn say_line(out: &mut Out, at: usize, before: &[u8], x: u64) -> usize {
-    let at = output::say_number(out, at, before, x);
-    output::say(out, at, b"\n")
-}
-
-pub fn say_refused(out: &mut Out, at: usize, why: Reason) -> usize {
-    say_line(out, at, b"refused ", reason::number_of(why) as u64)
-}
-
-// The answer to the line of that number.
-pub fn say_answer(out: &mut Out, at: usize, line: u64, answer: Answer) -> usize {
-    match answer {
-        Answer::Done => output::say(out, at, b"ok\n"),
-        Answer::Number(x) => say_line(out, at, b"ok ", x),
-        Answer::Pair(x, y) => say_pair(out, at, x, y),
-        Answer::Nothing => output::say(out, at, b"nothing\n"),
-        Answer::Refused(why) => say_refused(out, at, why),
-        Answer::Not => say_line(out, at, b"? ", line),
+    fn from(why: Reason) -> Refusal {
+        Refusal::Refused(why)
     }
 }

@@ -1,2 +1,5 @@
 -- What the script's readers promise.
 pub mod Within
+pub mod Digits
+pub mod Lines
+pub mod Laid

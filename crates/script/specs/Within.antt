@@ -1,8 +1,6 @@
 -- A number that was read keeps the limit that it was read with.
-use Rattle.std.specs.Prelude.{ℕ, ◌≤◌}
-use Rattle.script.specs.declared.word.Number.{Number}
-use Rattle.script.specs.declared.word.Number.TheVariants.{Value, Not}
+use Rattle.std.specs.Prelude.{ℕ, ◌≤◌, Option, Some, None}
 
-abbrev pub Within : ℕ → Number → Type 0
-Within most (Value v) = v ≤ most
-Within most Not = Unit {0}
+abbrev pub Within : ℕ → Option ℕ → Type 0
+Within most (Some v) = v ≤ most
+Within most None = Unit {0}

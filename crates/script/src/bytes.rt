@@ -1,159 +1,73 @@
 // BYTES and BYTE of a script: hex digits, and runs of one byte.
-ghost use Rattle.std.specs.Prelude.{◌+◌, ◌≤◌, ◌<◌};
+ghost use Rattle.std.specs.Prelude.{◌≡◌, IfSome};
+ghost use Rattle.script.specs.Digits.{byte_of};
+ghost use Rattle.script.specs.Laid.{Spells};
 
 use crate::word;
-use crate::word::Size;
 
-// The byte that two digits are, if they are digits.
-#[derive(Drop)]
-pub enum Byte {
-    Value(u8),
-    Not,
-}
-
-// The value of a hex digit; 16 for any other byte.
-fn digit(byte: u8) -> u8
-    ensures { result ≤ 16 }
-{
-    match byte {
-        b'0'..=b'9' => byte - b'0',
-        b'A'..=b'F' => byte - b'A' + 10,
-        b'a'..=b'f' => byte - b'a' + 10,
-        _ => 16,
-    }
-}
-
-// The digit of a value below 16, in upper case.
-fn digit_of(value: u8) -> u8
-    requires { value < 16 }
-{
-    if value < 10 {
-        b'0' + value
-    } else {
-        b'A' + (value - 10)
-    }
-}
-
-// A byte's two digits, in upper case.
-pub fn digits_of(byte: u8) -> [u8; 2] {
-    [digit_of(byte / 16), digit_of(byte % 16)]
-}
-
-fn pair(high: u8, low: u8) -> Byte {
-    let h = digit(high);
-    let l = digit(low);
-    if h == 16 {
-        return Byte::Not;
-    }
-    if l == 16 {
-        return Byte::Not;
-    }
-    Byte::Value(h * 16 + l)
+// Bytes as a word spells them.
+#[derive(Clone, Copy)]
+pub enum Bytes<'a> {
+    // One byte so many times, as `BBxCOUNT` spells it.
+    Run { byte: u8, count: usize },
+    // The two digits of each byte.
+    Digits(&'a [u8]),
 }
 
 // A word that is one byte.
-pub fn one(word: &[u8]) -> Byte {
-    if word.len() != 2 {
-        return Byte::Not;
-    }
-    pair(word[0], word[1])
+pub fn one(word: &[u8]) -> Option<u8>
+    ensures { IfSome result (λ byte. byte ≡ byte_of word.now) }
+{
+    let [high, low] = word else {
+        return None;
+    };
+    let high = char::from(*high).to_digit(16)?;
+    let low = char::from(*low).to_digit(16)?;
+    Some((high * 16 + low) as u8)
 }
 
-// Whether a word has the form of a run, `BBxCOUNT`.
-fn is_run(word: &[u8]) -> bool {
-    if word.len() < 4 {
-        return false;
-    }
-    word[2] == b'x'
-}
-
-fn are_digits(word: &[u8]) -> bool {
-    let mut i = 0;
-    while i < word.len() {
-        if digit(word[i]) == 16 {
-            return false;
+// The bytes that a word spells, if it spells bytes.
+pub fn bytes_of<'a>(word: &'a [u8]) -> Option<Bytes<'a>>
+    ensures { IfSome result (Spells word.now) }
+{
+    match word {
+        b"-" => Some(Bytes::Digits(b"")),
+        [high, low, b'x', count @ ..] => Some(Bytes::Run {
+            byte: one(&[*high, *low])?,
+            count: word::number(count)?,
+        }),
+        [] => None,
+        _ => {
+            let are_digits = word.chunks(2).all(|digits| one(digits).is_some());
+            are_digits.then_some(Bytes::Digits(word))
         }
-        i += 1;
-    }
-    true
-}
-
-fn count_run(word: &[u8]) -> Size {
-    if word.len() < 4 {
-        return Size::Not;
-    }
-    let byte = one(&word[0..2]);
-    if let Byte::Not = byte {
-        return Size::Not;
-    }
-    word::size_of(&word[3..])
-}
-
-fn count_pairs(word: &[u8]) -> Size {
-    if word.len() == 0 {
-        return Size::Not;
-    }
-    if word.len() % 2 == 1 {
-        return Size::Not;
-    }
-    if !are_digits(word) {
-        return Size::Not;
-    }
-    Size::Value(word.len() / 2)
-}
-
-// How many bytes a word spells, if it spells bytes.
-pub fn count(word: &[u8]) -> Size {
-    if word::is(word, b"-") {
-        return Size::Value(0);
-    }
-    if is_run(word) {
-        return count_run(word);
-    }
-    count_pairs(word)
-}
-
-pub fn fill(out: &mut [u8], byte: u8) {
-    let mut i = 0;
-    while i < out.len() {
-        out[i] = byte;
-        i += 1;
     }
 }
 
-// The byte that two digits of a word are; 0 where there are none.
-fn byte_at(word: &[u8], at: usize) -> u8 {
-    if word.len() < 2 {
-        return 0;
-    }
-    if word.len() - 2 < at {
-        return 0;
-    }
-    let byte = pair(word[at], word[at + 1]);
-    match byte {
-        Byte::Value(value) => value,
-        Byte::Not => 0,
-    }
-}
+impl<'a> Bytes<'a> {
+    ghost use Rattle.script.specs.Laid.{count_of, Lays};
 
-fn lay_pairs(word: &[u8], out: &mut [u8]) {
-    let mut at = 0;
-    let mut i = 0;
-    while i < out.len() {
-        if word.len() - at < 2 {
-            return;
+    // How many bytes they are.
+    pub fn count(&self) -> usize
+        ensures { result ≡ count_of self.now }
+    {
+        match self {
+            Bytes::Run { count, .. } => *count,
+            Bytes::Digits(digits) => digits.len() / 2,
         }
-        out[i] = byte_at(word, at);
-        at += 2;
-        i += 1;
     }
-}
 
-// Puts the bytes that a word spells into a slice of so many.
-pub fn lay(word: &[u8], out: &mut [u8]) {
-    if is_run(word) {
-        fill(out, byte_at(word, 0));
-        return;
+    // Puts them into a slice of so many.
+    pub fn lay(&self, out: &mut [u8])
+        ensures { Lays self.now out.old out.new }
+    {
+        match self {
+            Bytes::Run { byte, .. } => out.fill(*byte),
+            Bytes::Digits(digits) => {
+                for (to, pair) in out.iter_mut().zip(digits.chunks_exact(2)) {
+                    *to = one(pair).unwrap_or(0);
+                }
+            }
+        }
     }
-    lay_pairs(word, out);
 }

@@ -1,7 +1,6 @@
 // The CRC-32 of IEEE 802.3, by a table of what each byte does.
-ghost use Rattle.std.specs.Prelude.{◌<◌};
 
-const TABLE: [u32; 256] = [
+static TABLE: [u32; 256] = [
     0x00000000, 0x77073096, 0xEE0E612C, 0x990951BA, 0x076DC419, 0x706AF48F, 0xE963A535, 0x9E6495A3,
     0x0EDB8832, 0x79DCB8A4, 0xE0D5E91E, 0x97D2D988, 0x09B64C2B, 0x7EB17CBD, 0xE7B82D07, 0x90BF1D91,
     0x1DB71064, 0x6AB020F2, 0xF3B97148, 0x84BE41DE, 0x1ADAD47D, 0x6DDDE4EB, 0xF4D4B551, 0x83D385C7,
@@ -36,32 +35,16 @@ const TABLE: [u32; 256] = [
     0xB3667A2E, 0xC4614AB8, 0x5D681B02, 0x2A6F2B94, 0xB40BBE37, 0xC30C8EA1, 0x5A05DF1B, 0x2D02EF8D,
 ];
 
-// A byte as a place in the table.
-fn place(byte: u8) -> usize
-    ensures { result < 256 }
-{
-    byte as usize
-}
-
 // The remainder with one byte more.
-fn step(table: &[u32; 256], remainder: u32, byte: u8) -> u32 {
+fn step(remainder: u32, byte: u8) -> u32 {
     let low = (remainder % 256) as u8;
-    let at = place(low ^ byte);
-    table[at] ^ (remainder / 256)
+    TABLE[(low ^ byte) as usize] ^ (remainder / 256)
 }
 
-fn remainder_of(table: &[u32; 256], bytes: &[u8]) -> u32 {
-    let mut remainder = u32::MAX;
-    let mut i = 0;
-    while i < bytes.len() {
-        remainder = step(table, remainder, bytes[i]);
-        i += 1;
-    }
-    remainder
-}
-
-// The sum of some bytes. The table is lent, so that a byte costs no copy of it.
+// The sum of some bytes.
 pub fn sum_of(bytes: &[u8]) -> u32 {
-    let table = TABLE;
-    remainder_of(&table, bytes) ^ u32::MAX
+    let remainder = bytes
+        .iter()
+        .fold(u32::MAX, |remainder, byte| step(remainder, *byte));
+    remainder ^ u32::MAX
 }

@@ -1,9 +1,0 @@
--- `looks::show::place_of` is safe and ends: i stays within the letters.
-use Prim.Native.Nat.{◌-◌, ◌≤◌}
-use Rattle.looks.proofs.show.place_of.Given as goal
-
-abbrev pub invariant-loop-i : goal.invariant-loop-i
-invariant-loop-i l = l.i ≤ 52
-
-abbrev pub decreases-loop-i : goal.decreases-loop-i
-decreases-loop-i l = 52 - l.i

@@ -1,0 +1,2 @@
+-- What the bench program prints of an answer.
+pub mod Said
