@@ -8,14 +8,13 @@ use native.Mathlib.Numerals.{add-one}
 use borrow.Author.Tests.{lt-ltb}
 use lib.ListN.{length, take, get_or, set, length-set}
 use lib.Seq.{take-length, take-suc, take-set-le, get_or-set_same}
-use Rattle.layout.specs.declared.Ring.{Ring}
 use Rattle.layout.proofs.Tests.{both_left}
 use Rattle.state.specs.declared.Held.{Held}
 use Rattle.state.specs.Lists.{pick, no_held, those}
 use Rattle.state.specs.Asks.{end_of}
 use Rattle.state.proofs.Bools.{both_intro}
 use Rattle.state.proofs.Those.{those_append}
-use Rattle.rules.specs.Fill.{is_of, writes_for}
+use Rattle.rules.specs.Fill.{is_of, writes_by}
 use Rattle.fill.specs.Overlay.{is_over, is_near, overlaid}
 use Rattle.fill.proofs.Seeking.{over_inside, byte_those}
 use Rattle.fill.proofs.Overlaying.{over_same}
@@ -88,8 +87,8 @@ module _ (node from end : ℕ) where
       let m = k.1 in
       both_intro _ _ (both_left (is_of node h) _ e) (both_intro _ _ (lt-ltb h.entry.offset end (omega arith)) (lt-ltb from (end_of h) (omega arith)))
 
-  pub near_same : (held near : List Held) → near ≡ those (is_near node from end) held → (r : List ℕ) (g : Ring) (bs : List ℕ)
-      → from + length bs ≤ end → overlaid (writes_for node r g near) from bs ≡ overlaid (writes_for node r g held) from bs
-  near_same held near e r g bs h =
-      ap (λ ks. overlaid (writes_for node r g ks) from bs) e
-      ∙ over_same _ _ from bs (λ p b u v. byte_those node r g p (is_near node from end) (over_near p u (omega arith)) b held)
+  pub near_same : (held near : List Held) → near ≡ those (is_near node from end) held → (f : ℕ → ℕ) (bs : List ℕ)
+      → from + length bs ≤ end → overlaid (writes_by node f near) from bs ≡ overlaid (writes_by node f held) from bs
+  near_same held near e f bs h =
+      ap (λ ks. overlaid (writes_by node f ks) from bs) e
+      ∙ over_same _ _ from bs (λ p b u v. byte_those node f p (is_near node from end) (over_near p u (omega arith)) b held)

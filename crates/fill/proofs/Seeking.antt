@@ -9,8 +9,7 @@ use native.Mathlib.Omega.{arith}
 use lib.ListN.{length, take, get_or}
 use lib.Seq.{take-suc}
 use Rattle.layout.specs.Sizes.{slot_size, head_size}
-use Rattle.layout.specs.Bytes.{both, round}
-use Rattle.layout.specs.declared.Ring.{Ring}
+use Rattle.layout.specs.Bytes.{both}
 use Rattle.layout.proofs.Tests.{both_right, not_true_false, true_not_false}
 use Rattle.layout.proofs.Views.{bytes_length}
 use Rattle.walk.specs.declared.Entry.{Entry}
@@ -20,7 +19,7 @@ use Rattle.state.specs.declared.Held.{Held}
 use Rattle.state.specs.Lists.{pick, no_held, entry_of, those}
 use Rattle.shore.specs.Cover.{spans, covers, or_else, last_that, newest, byte_in, byte_over}
 use Rattle.shore.proofs.Covering.{last_snoc, spans_out}
-use Rattle.rules.specs.Fill.{is_of, writes_for}
+use Rattle.rules.specs.Fill.{is_of, writes_by}
 use Rattle.fill.specs.Overlay.{is_over}
 
 covers_entry : (f : ℕ → ℕ) (p : ℕ) (e : Entry) → covers p (write_of f e) ≡ spans e.offset e.length p
@@ -64,59 +63,57 @@ last_those p q k (x ∷ xs) = at (q x) refl (last_those p q k xs)
         let n : p x ≡ false = not_true_false (p x) (λ y. true_not_false (q x) (k x y) z) in
         e ∙ sym (ap (λ b. or_else (last_that p xs) (pick b (Some x) None)) n ∙ or_none (last_that p xs))
 
-module _ (node : ℕ) (r : List ℕ) (g : Ring) (p : ℕ) where
-  newest_is : (hs : List Held) → newest p (writes_for node r g hs) ≡ wrote (round r g.n) (last_that (is_over node p) hs)
+module _ (node : ℕ) (f : ℕ → ℕ) (p : ℕ) where
+  newest_is : (hs : List Held) → newest p (writes_by node f hs) ≡ wrote f (last_that (is_over node p) hs)
   unfolding both
   newest_is [] = refl
   newest_is (h ∷ hs) = at (is_of node h) (newest_is hs)
     where
-      at : (b : Bool) → newest p (writes_for node r g hs) ≡ wrote (round r g.n) (last_that (is_over node p) hs)
-          → newest p (map (write_of (round r g.n)) (map entry_of (pick b (h ∷ those (is_of node) hs) (those (is_of node) hs))))
-          ≡ wrote (round r g.n) (or_else (last_that (is_over node p) hs) (pick (both b (spans h.entry.offset h.entry.length p)) (Some h) None))
+      at : (b : Bool) → newest p (writes_by node f hs) ≡ wrote f (last_that (is_over node p) hs)
+          → newest p (map (write_of f) (map entry_of (pick b (h ∷ those (is_of node) hs) (those (is_of node) hs))))
+          ≡ wrote f (or_else (last_that (is_over node p) hs) (pick (both b (spans h.entry.offset h.entry.length p)) (Some h) None))
       at true e =
-          let f = round r g.n in
           let t = spans h.entry.offset h.entry.length p in
-          ap (λ b. or_else (newest p (writes_for node r g hs)) (pick b (Some (write_of f h.entry)) None)) (covers_entry f p h.entry)
+          ap (λ b. or_else (newest p (writes_by node f hs)) (pick b (Some (write_of f h.entry)) None)) (covers_entry f p h.entry)
           ∙ ap (λ o. or_else o (pick t (Some (write_of f h.entry)) None)) e
           ∙ sym (wrote_or f (last_that (is_over node p) hs) (pick t (Some h) None) ∙ ap (or_else (wrote f (last_that (is_over node p) hs))) (wrote_pick f t h None))
-      at false e = e ∙ ap (wrote (round r g.n)) (sym (or_none (last_that (is_over node p) hs)))
+      at false e = e ∙ ap (wrote f) (sym (or_none (last_that (is_over node p) hs)))
 
   newest_snoc : (hs : List Held) (h : Held)
-      → newest p (writes_for node r g (hs ++ h ∷ [])) ≡ pick (is_over node p h) (Some (write_of (round r g.n) h.entry)) (newest p (writes_for node r g hs))
+      → newest p (writes_by node f (hs ++ h ∷ [])) ≡ pick (is_over node p h) (Some (write_of f h.entry)) (newest p (writes_by node f hs))
   newest_snoc hs h =
-      let f = round r g.n in
       newest_is (hs ++ h ∷ []) ∙ ap (wrote f) (last_snoc (is_over node p) hs h) ∙ wrote_pick f (is_over node p h) h (last_that (is_over node p) hs)
       ∙ ap (pick (is_over node p h) (Some (write_of f h.entry))) (sym (newest_is hs))
 
   -- so writes may be left out that aren't over the place
   pub byte_those : (q : Held → Bool) → ((h : Held) → is_over node p h ≡ true → q h ≡ true) → (other : ℕ) (hs : List Held)
-      → byte_over p other (writes_for node r g (those q hs)) ≡ byte_over p other (writes_for node r g hs)
+      → byte_over p other (writes_by node f (those q hs)) ≡ byte_over p other (writes_by node f hs)
   unfolding byte_over
   byte_those q k other hs =
-      ap (byte_in p other) (newest_is (those q hs) ∙ ap (wrote (round r g.n)) (last_those (is_over node p) q k hs) ∙ sym (newest_is hs))
+      ap (byte_in p other) (newest_is (those q hs) ∙ ap (wrote f) (last_those (is_over node p) q k hs) ∙ sym (newest_is hs))
 
   -- ---- the search: no write from place i on covers p, so that those before it decide
 
   pub record Seeking (held : List Held) (other i : ℕ) : Type 0 where
     pub upto : i ≤ length held
-    pub rest : byte_over p other (writes_for node r g held) ≡ byte_over p other (writes_for node r g (take i held))
+    pub rest : byte_over p other (writes_by node f held) ≡ byte_over p other (writes_by node f (take i held))
 
   module _ (held : List Held) (other : ℕ) where
-    pub seek_none : (i : ℕ) → Seeking held other i → i ≡ 0 → other ≡ byte_over p other (writes_for node r g held)
+    pub seek_none : (i : ℕ) → Seeking held other i → i ≡ 0 → other ≡ byte_over p other (writes_by node f held)
     unfolding byte_over
     seek_none i s z = sym (s.rest ∙ rw z)
 
     module _ (i : ℕ) (s : Seeking held other i) (z : i ≡ 0 → ⊥) where
-      step : byte_over p other (writes_for node r g held)
-          ≡ byte_in p other (pick (is_over node p (get_or held (i - 1) no_held)) (Some (write_of (round r g.n) (get_or held (i - 1) no_held).entry)) (newest p (writes_for node r g (take (i - 1) held))))
+      step : byte_over p other (writes_by node f held)
+          ≡ byte_in p other (pick (is_over node p (get_or held (i - 1) no_held)) (Some (write_of f (get_or held (i - 1) no_held).entry)) (newest p (writes_by node f (take (i - 1) held))))
       unfolding byte_over
       step =
           let u = s.upto in
           let e : i ≡ suc (i - 1) = omega (arith, z) in
           let h : i - 1 < length held = omega (arith, z) in
           s.rest
-          ∙ ap (λ j. byte_in p other (newest p (writes_for node r g (take j held)))) e
-          ∙ ap (λ hs. byte_in p other (newest p (writes_for node r g hs))) (take-suc held (i - 1) no_held h)
+          ∙ ap (λ j. byte_in p other (newest p (writes_by node f (take j held)))) e
+          ∙ ap (λ hs. byte_in p other (newest p (writes_by node f hs))) (take-suc held (i - 1) no_held h)
           ∙ ap (byte_in p other) (newest_snoc (take (i - 1) held) (get_or held (i - 1) no_held))
 
       pub seek_on : is_over node p (get_or held (i - 1) no_held) ≡ false → Seeking held other (i - 1)
@@ -125,10 +122,10 @@ module _ (node : ℕ) (r : List ℕ) (g : Ring) (p : ℕ) where
           let u = s.upto in
           record {
             upto = omega arith;
-            rest = step ∙ ap (λ b. byte_in p other (pick b (Some (write_of (round r g.n) (get_or held (i - 1) no_held).entry)) (newest p (writes_for node r g (take (i - 1) held))))) e;
+            rest = step ∙ ap (λ b. byte_in p other (pick b (Some (write_of f (get_or held (i - 1) no_held).entry)) (newest p (writes_by node f (take (i - 1) held))))) e;
           }
 
       pub seek_here : is_over node p (get_or held (i - 1) no_held) ≡ true
-          → get_or (data_of (round r g.n) (get_or held (i - 1) no_held).entry) (p - (get_or held (i - 1) no_held).entry.offset) 0 ≡ byte_over p other (writes_for node r g held)
+          → get_or (data_of f (get_or held (i - 1) no_held).entry) (p - (get_or held (i - 1) no_held).entry.offset) 0 ≡ byte_over p other (writes_by node f held)
       seek_here e =
-          sym (step ∙ ap (λ b. byte_in p other (pick b (Some (write_of (round r g.n) (get_or held (i - 1) no_held).entry)) (newest p (writes_for node r g (take (i - 1) held))))) e)
+          sym (step ∙ ap (λ b. byte_in p other (pick b (Some (write_of f (get_or held (i - 1) no_held).entry)) (newest p (writes_by node f (take (i - 1) held))))) e)

@@ -6,11 +6,11 @@
 ghost use Rattle.std.specs.Prelude.{◌≡◌, [], List, ◌+◌, ◌≤◌, ◌<◌, length, replicate, ltb};
 ghost use Rattle.std.specs.List.{list_any};
 ghost use Rattle.layout.specs.Sizes.{most_entries, file_end};
-ghost use Rattle.layout.specs.Bytes.{both, Sized};
+ghost use Rattle.layout.specs.Bytes.{both, round};
 ghost use Rattle.walk.specs.Walk.{Write, unreadable};
 ghost use Rattle.state.specs.Pins.{has_pin_for};
 ghost use Rattle.rules.specs.Call.{fill_read};
-ghost use Rattle.rules.specs.Fill.{writes_for, fill_count, filled};
+ghost use Rattle.rules.specs.Fill.{writes_by, fill_count, filled};
 ghost use Rattle.rules.specs.Refusals.{own};
 ghost use Rattle.rules.specs.Known.{Known};
 ghost use Rattle.rules.specs.Outcome.{outcome, lent_by};
@@ -18,7 +18,7 @@ ghost use Rattle.fill.specs.Answers.{said_fill, may_of};
 ghost use Rattle.fill.specs.Overlay.{is_named, is_over, is_near, overlaid};
 
 use judge::Judged;
-use layout::Ring;
+use layout::{Ring, Slots};
 use reason::Reason;
 use state::{Held, Pin, State};
 use std::marker::Model;
@@ -109,8 +109,7 @@ fn is_near(held: Held, node: u32, from: usize, end: usize) -> bool
 // A node's writes among those that a ring holds, oldest first, to be laid over bytes of its file: contracts see the list of them.
 #[derive(Drop)]
 struct Layer<'a> {
-    bytes: &'a [u8],
-    ring: Ring,
+    slots: Slots<'a>,
     held: &'a [Held],
     node: u32,
 }
@@ -118,9 +117,9 @@ struct Layer<'a> {
 impl<'a> Model for Layer<'a> {
     ghost Value = { List Write };
 
-    ghost view = { λ l. writes_for l.node l.bytes.now l.ring l.held.now };
+    ghost view = { λ l. writes_by l.node (round l.slots.bytes.now l.slots.n) l.held.now };
 
-    ghost invariant = { λ l. Sized l.bytes.now l.ring.n × (length l.held.now ≤ most_entries) };
+    ghost invariant = { λ l. length l.held.now ≤ most_entries };
 }
 
 impl<'a> Layer<'a> {
@@ -142,12 +141,7 @@ impl<'a> Layer<'a> {
                 let one = self.held[i];
                 if is_over(one, self.node, p) {
                     let entry = one.entry;
-                    break walk::entry_byte(
-                        self.bytes,
-                        self.ring.n,
-                        entry,
-                        p - entry.offset as usize,
-                    );
+                    break walk::entry_byte(&self.slots, entry, p - entry.offset as usize);
                 }
             };
         }
@@ -223,10 +217,10 @@ fn count_of(n: usize, g: usize, offset: u32, end: u64) -> usize
 
 // Fills a read, on a ring and a state that passed the judge. What is asked comes place by place, as the host's call has it and `fill_read` takes it:
 // a struct of it would be made in `fill` and taken apart in each contract.
-fn fill_known(
-    bytes: &[u8],
+fn fill_known<'a>(
+    bytes: &'a [u8],
     s: &State,
-    judged: &Judged,
+    judged: &'a Judged,
     pin: u64,
     node: u32,
     offset: u32,
@@ -241,12 +235,11 @@ fn fill_known(
     let held = judged.held.as_slice();
     let end = state::end_of(held, node);
     let r = count_of(n, fetched, offset, end);
-    let layer = Layer {
+    let slots = Slots {
         bytes,
-        ring: judged.ring,
-        held,
-        node,
+        n: judged.ring.n,
     };
+    let layer = Layer { slots, held, node };
     layer.fill_bytes(offset as usize, fetched, r, buffer);
     Ok(r)
 }

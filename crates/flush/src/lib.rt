@@ -14,7 +14,7 @@ ghost use Rattle.flush.specs.Answers.{said_start};
 
 use arrayvec::ArrayVec;
 use judge::Judged;
-use layout::Ring;
+use layout::{Ring, Slots};
 use reason::Reason;
 use sheet::BATCH;
 use state::{Event, Held, State, UNFLUSHED};
@@ -98,7 +98,8 @@ fn start_known(
     if s.next == Ring::NUMBERS {
         return Err(Reason::NoNumber);
     }
-    let Some(length) = sheet::make_sheet(bytes, ring.n, &batch, node, buffer) else {
+    let slots = Slots { bytes, n: ring.n };
+    let Some(length) = sheet::make_sheet(&slots, &batch, node, buffer) else {
         return Err(Reason::BadBuffer);
     };
     Ok(Some(begin(s, held.as_slice(), length)))

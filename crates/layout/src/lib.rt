@@ -92,16 +92,6 @@ pub fn around(p: usize, n: usize) -> usize
     p % n
 }
 
-// The byte at place p of n slots, round the end.
-#[tactic(auto, unfolding(crate::specs::Bytes::round))]
-pub fn round_at(bytes: &[u8], n: usize, p: usize) -> u8
-    requires { Sized bytes.now n }
-    ensures { result ≡ round bytes.now n p }
-{
-    let span = n * Ring::SLOT;
-    bytes[Ring::HEADER + around(p, span)]
-}
-
 // The byte of the buffer where a run of count bytes at place p of n slots begins, and how many of them stand before
 // the ring's end. The rest begins at slot 0.
 fn run_at(n: usize, p: usize, count: usize) -> (usize, usize)
@@ -114,19 +104,38 @@ fn run_at(n: usize, p: usize, count: usize) -> (usize, usize)
     (Ring::HEADER + turned, count.min(span - turned))
 }
 
-// Copies out the bytes at place p of n slots, round the end, until the lent part is full: up to the ring's end, and then the rest.
-pub fn take_bytes(bytes: &[u8], n: usize, p: usize, out: &mut [u8])
-    requires sized { Sized bytes.now n }
-    requires out_bound { p + length out.old ≤ span_of n + span_of n }
-    ensures { out.new ≡ bytes_at (round bytes.now n) p (length out.old) }
-{
-    let (start, left) = run_at(n, p, out.len());
-    let rest = out.len() - left;
-    out[..left].copy_from_slice(&bytes[start..start + left]);
-    out[left..].copy_from_slice(&bytes[Ring::HEADER..Ring::HEADER + rest]);
+// The slots of a ring's bytes, n of them, read round the end.
+#[derive(Clone, Copy)]
+pub struct Slots<'a> {
+    pub bytes: &'a [u8],
+    pub n: usize,
+    pub ghost sized: { Sized bytes.now n },
+}
+
+impl Slots<'_> {
+    // The byte at place p, round the end.
+    #[tactic(auto, unfolding(crate::specs::Bytes::round))]
+    pub fn byte(&self, p: usize) -> u8
+        ensures { result ≡ round self.now.bytes.now self.now.n p }
+    {
+        let span = self.n * Ring::SLOT;
+        self.bytes[Ring::HEADER + around(p, span)]
+    }
+
+    // Copies out the bytes at place p, round the end, until the lent part is full: up to the ring's end, and then the rest.
+    pub fn take(&self, p: usize, out: &mut [u8])
+        requires { p + length out.old ≤ span_of self.now.n + span_of self.now.n }
+        ensures { out.new ≡ bytes_at (round self.now.bytes.now self.now.n) p (length out.old) }
+    {
+        let (start, left) = run_at(self.n, p, out.len());
+        let rest = out.len() - left;
+        out[..left].copy_from_slice(&self.bytes[start..start + left]);
+        out[left..].copy_from_slice(&self.bytes[Ring::HEADER..Ring::HEADER + rest]);
+    }
 }
 
 // Stores src at place p of n slots, round the end: up to the ring's end, and then the rest.
+// No view of slots to store in stands beside `Slots`: it would hold a lent `&mut`, of which each clause says `.now` twice, and only five functions store.
 pub fn put_bytes(bytes: &mut [u8], n: usize, p: usize, src: &[u8])
     requires sized { Sized bytes.old n }
     requires p_bound { (p ≤ span_of n + span_of n) × (length src.now ≤ span_of n) }

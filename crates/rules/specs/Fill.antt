@@ -16,8 +16,12 @@ longest_fill = 65536
 abbrev pub is_of : ℕ → Held → Bool
 is_of node h = eqb h.entry.node node
 
+-- of slots with the bytes f
+abbrev pub writes_by : ℕ → (ℕ → ℕ) → List Held → List Write
+writes_by node f hs = map (write_of f) (map entry_of (those (is_of node) hs))
+
 abbrev pub writes_for : ℕ → List ℕ → Ring → List Held → List Write
-writes_for node r g hs = map (write_of (round r g.n)) (map entry_of (those (is_of node) hs))
+writes_for node r g hs = writes_by node (round r g.n) hs
 
 -- "The answer is the count r: the greater of g and min(n, E - offset), the latter 0 where E is below offset."
 abbrev pub fill_count : ℕ → ℕ → ℕ → ℕ → ℕ

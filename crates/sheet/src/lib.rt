@@ -5,13 +5,13 @@
 ghost use Rattle.std.specs.Prelude.{◌≡◌, map, ◌+◌, ◌-◌, ◌*◌, ◌≤◌, ◌<◌, length};
 ghost use Rattle.layout.specs.Sizes.{file_end, largest};
 ghost use Rattle.walk.specs.Walk.{write_of};
-ghost use Rattle.layout.specs.Bytes.{Sized, bytes4, bytes_at, round};
+ghost use Rattle.layout.specs.Bytes.{bytes4, bytes_at, round};
 ghost use Rattle.shore.specs.Cover.{spans};
 ghost use Rattle.sheet.specs.Sheet.{list_of, data_by, sheet_of, laid_at};
 ghost use Rattle.sheet.specs.Places.{Batch, Laid, Covered, AllCovered, byte_by, Painted, total, Steady, Ends, FoundAt, StartAt, StartFrom, key_at, key_by, overlies, grow, in_order, pieces_from, laid_if, made_from};
 
 use arrayvec::ArrayVec;
-use layout::Ring;
+use layout::{Ring, Slots};
 use walk::Entry;
 
 // The most writes of a batch, and so the most pieces of its sheet.
@@ -196,22 +196,20 @@ fn put_list(buffer: &mut [u8], list: &[Piece])
     }
 }
 
-// What a sheet's bytes are taken from: the entries of a batch in number order, and the ring of n slots that has their bytes.
+// What a sheet's bytes are taken from: the entries of a batch in number order, and the slots that have their bytes.
 #[derive(Clone, Copy)]
 struct Source<'a> {
-    bytes: &'a [u8],
-    n: usize,
+    slots: Slots<'a>,
     entries: &'a [Entry],
-    ghost sized: { Sized bytes.now n },
-    ghost laid: { Laid n entries.now },
+    ghost laid: { Laid slots.n entries.now },
 }
 
 impl Source<'_> {
     // Paints a write over the places from `start` on: those that it covers get its bytes, the others stay.
     fn put_overlap(&self, entry: Entry, start: usize, out: &mut [u8])
-        requires slot_lt_n { (entry.slot < self.now.n) × (entry.length ≤ largest) × (entry.offset + entry.length ≤ file_end) }
+        requires slot_lt_n { (entry.slot < self.now.slots.n) × (entry.length ≤ largest) × (entry.offset + entry.length ≤ file_end) }
         requires out_bound { start + length out.old ≤ file_end }
-        ensures { Painted (round self.now.bytes.now self.now.n) entry start out.old out.new }
+        ensures { Painted (round self.now.slots.bytes.now self.now.slots.n) entry start out.old out.new }
     {
         let low = entry.offset as usize;
         let high = low + entry.length as usize;
@@ -220,14 +218,14 @@ impl Source<'_> {
         if from < until {
             let skip = from - low;
             let part = &mut out[from - start..until - start];
-            walk::entry_bytes(self.bytes, self.n, entry, skip, part);
+            walk::entry_bytes(&self.slots, entry, skip, part);
         }
     }
 
     // The bytes of a piece: each write is painted over the older ones, so the newest is seen, and no place is searched for.
     fn put_piece(&self, start: usize, out: &mut [u8])
         requires { (start + length out.old ≤ file_end) × Covered self.now.entries.now start (length out.old) }
-        ensures { out.new ≡ bytes_at (byte_by (round self.now.bytes.now self.now.n) self.now.entries.now) start (length out.old) }
+        ensures { out.new ≡ bytes_at (byte_by (round self.now.slots.bytes.now self.now.slots.n) self.now.entries.now) start (length out.old) }
     {
         for entry in self.entries {
             self.put_overlap(*entry, start, out);
@@ -237,7 +235,7 @@ impl Source<'_> {
     // The bytes of a piece, in the part of a buffer from `at` up to `end`.
     fn put_part(&self, start: usize, buffer: &mut [u8], at: usize, end: usize)
         requires { (at ≤ end) × (end ≤ length buffer.old) × (start + (end - at) ≤ file_end) × Covered self.now.entries.now start (end - at) }
-        ensures { buffer.new ≡ laid_at buffer.old at (bytes_at (byte_by (round self.now.bytes.now self.now.n) self.now.entries.now) start (end - at)) }
+        ensures { buffer.new ≡ laid_at buffer.old at (bytes_at (byte_by (round self.now.slots.bytes.now self.now.slots.n) self.now.entries.now) start (end - at)) }
     {
         self.put_piece(start, &mut buffer[at..end]);
     }
@@ -245,7 +243,7 @@ impl Source<'_> {
     // The bytes of all pieces, from `from` on.
     fn put_data(&self, list: &[Piece], buffer: &mut [u8], from: usize)
         requires { (from + total list.now ≤ length buffer.old) × AllCovered self.now.entries.now list.now }
-        ensures { buffer.new ≡ laid_at buffer.old from (data_by (byte_by (round self.now.bytes.now self.now.n) self.now.entries.now) list.now) }
+        ensures { buffer.new ≡ laid_at buffer.old from (data_by (byte_by (round self.now.slots.bytes.now self.now.slots.n) self.now.entries.now) list.now) }
     {
         let mut at = from;
         for piece in list {
@@ -258,7 +256,7 @@ impl Source<'_> {
     // The whole sheet, in a buffer that is long enough.
     fn put_sheet(&self, node: u32, list: &[Piece], buffer: &mut [u8])
         requires { (list.now ≡ in_order (grow (key_by self.now.entries.now) file_end)) × (8 + 8 * length list.now + total list.now ≤ length buffer.old) }
-        ensures { buffer.new ≡ laid_at buffer.old 0 (sheet_of node (map (write_of (round self.now.bytes.now self.now.n)) self.now.entries.now)) }
+        ensures { buffer.new ≡ laid_at buffer.old 0 (sheet_of node (map (write_of (round self.now.slots.bytes.now self.now.slots.n)) self.now.entries.now)) }
     {
         put_number(buffer, 0, list.len());
         put_number(buffer, 4, node as usize);
@@ -268,24 +266,20 @@ impl Source<'_> {
 }
 
 // The sheet of a batch, written to the front of a buffer, and its length; or none where the buffer is too short for it and stays as it was.
-pub fn make_sheet(
-    bytes: &[u8],
-    n: usize,
-    entries: &[Entry],
-    node: u32,
-    buffer: &mut [u8],
-) -> Option<usize>
-    requires sized { Sized bytes.now n }
-    requires laid { Laid n entries.now }
-    ensures made { result ≡ made_from (length buffer.old) (sheet_of node (map (write_of (round bytes.now n)) entries.now)) }
-    ensures buffer { buffer.new ≡ laid_if buffer.old (sheet_of node (map (write_of (round bytes.now n)) entries.now)) }
+pub fn make_sheet(slots: &Slots, entries: &[Entry], node: u32, buffer: &mut [u8]) -> Option<usize>
+    requires { Laid slots.now.n entries.now }
+    ensures made { result ≡ made_from (length buffer.old) (sheet_of node (map (write_of (round slots.now.bytes.now slots.now.n)) entries.now)) }
+    ensures buffer { buffer.new ≡ laid_if buffer.old (sheet_of node (map (write_of (round slots.now.bytes.now slots.now.n)) entries.now)) }
 {
     let pieces = pieces_of(entries);
     let length = 8 + 8 * pieces.list.len() + pieces.size;
     if buffer.len() < length {
         return None;
     }
-    let source = Source { bytes, n, entries };
+    let source = Source {
+        slots: *slots,
+        entries,
+    };
     source.put_sheet(node, &pieces.list, buffer);
     Some(length)
 }

@@ -20,7 +20,7 @@ ghost use Rattle.walk.specs.Walk.{
 };
 
 use arrayvec::ArrayVec;
-use layout::Ring;
+use layout::{Ring, Slots};
 use reason::Reason;
 
 // An entry's head, and where it stands.
@@ -113,13 +113,12 @@ fn head_at(bytes: &[u8], p: usize, slot: u32) -> Entry
 }
 
 // The head of the entry at a place.
-fn entry_at(bytes: &[u8], n: usize, place: usize) -> Entry
-    requires { Sized bytes.now n }
-    ensures value { result ≡ entry_at (round bytes.now n) n place }
+fn entry_at(slots: &Slots, place: usize) -> Entry
+    ensures value { result ≡ entry_at (round slots.now.bytes.now slots.now.n) slots.now.n place }
     ensures length_bound { result.length < 65536 }
 {
-    let slot = layout::around(place, n);
-    head_at(bytes, Ring::HEADER + slot * Ring::SLOT, slot as u32)
+    let slot = layout::around(place, slots.n);
+    head_at(slots.bytes, Ring::HEADER + slot * Ring::SLOT, slot as u32)
 }
 
 // Whether an entry's fields keep the table.
@@ -152,30 +151,27 @@ fn valid_fields(entry: Entry) -> bool
 
 // Whether the rest of the last slot is zero, of an entry of that many bytes at a place.
 // The filler never crosses the ring's end, since a slot doesn't.
-fn filler_at(bytes: &[u8], n: usize, place: usize, length: u32) -> bool
-    requires sized { Sized bytes.now n }
-    requires place_bound { (place < most_slots + most_slots) × (length < 65536) }
-    ensures { result ≡ filler (round bytes.now n) place length }
+fn filler_at(slots: &Slots, place: usize, length: u32) -> bool
+    requires { (place < most_slots + most_slots) × (length < 65536) }
+    ensures { result ≡ filler (round slots.now.bytes.now slots.now.n) place length }
 {
     let full = Ring::slots(length) - 1;
-    let slot = layout::around(place + full, n);
+    let slot = layout::around(place + full, slots.n);
     let start = Ring::HEAD + length as usize - full * Ring::SLOT;
     layout::zeros_at(
-        bytes,
+        slots.bytes,
         Ring::HEADER + slot * Ring::SLOT + start,
         Ring::SLOT - start,
     )
 }
 
 // One step of the walk.
-pub fn step_at(bytes: &[u8], ring: Ring, at: Cursor) -> Option<Entry>
-    requires sized { Sized bytes.now ring.n }
-    requires place_bound { at.place < most_slots + most_slots }
-    ensures { result ≡ step_at (round bytes.now ring.n) ring.n at }
+pub fn step_at(slots: &Slots, at: Cursor) -> Option<Entry>
+    requires { at.place < most_slots + most_slots }
+    ensures { result ≡ step_at (round slots.now.bytes.now slots.now.n) slots.now.n at }
 {
-    let n = ring.n;
     let place = at.place;
-    let entry = entry_at(bytes, n, place);
+    let entry = entry_at(slots, place);
     if !valid_fields(entry) {
         return None;
     }
@@ -185,7 +181,7 @@ pub fn step_at(bytes: &[u8], ring: Ring, at: Cursor) -> Option<Entry>
     if at.left < Ring::slots(entry.length) {
         return None;
     }
-    if !filler_at(bytes, n, place, entry.length) {
+    if !filler_at(slots, place, entry.length) {
         return None;
     }
     Some(entry)
@@ -212,19 +208,20 @@ fn collect(bytes: &[u8], ring: Ring) -> Result<Walked, Reason>
     requires head_lt_n { (ring.head < ring.n) × (ring.used < ring.n) }
     ensures { result ≡ answer_of (reads ring (walk (round bytes.now ring.n) ring.n (start ring))) }
 {
+    let slots = Slots { bytes, n: ring.n };
     let mut entries = ArrayVec::new();
     let mut place = ring.head;
     let mut left = ring.used;
     let mut last = 0;
     while 0 < left {
-        let step = step_at(bytes, ring, Cursor { place, left, last });
+        let step = step_at(&slots, Cursor { place, left, last });
         let Some(entry) = step else {
             return Err(Reason::Unreadable);
         };
-        let slots = Ring::slots(entry.length);
+        let taken = Ring::slots(entry.length);
         entries.push(entry);
-        place += slots;
-        left -= slots;
+        place += taken;
+        left -= taken;
         last = entry.number;
     }
     Ok(Walked { ring, entries })
@@ -239,24 +236,18 @@ pub fn read(bytes: &[u8]) -> Result<Walked, Reason>
 }
 
 // Byte i of an entry's bytes.
-pub fn entry_byte(bytes: &[u8], n: usize, entry: Entry, i: usize) -> u8
-    requires sized { Sized bytes.now n }
-    requires i_lt_length { i < entry.length }
-    ensures { result ≡ get_or (data_of (round bytes.now n) entry) i 0 }
+pub fn entry_byte(slots: &Slots, entry: Entry, i: usize) -> u8
+    requires { i < entry.length }
+    ensures { result ≡ get_or (data_of (round slots.now.bytes.now slots.now.n) entry) i 0 }
 {
-    layout::round_at(bytes, n, entry.slot as usize * Ring::SLOT + Ring::HEAD + i)
+    slots.byte(entry.slot as usize * Ring::SLOT + Ring::HEAD + i)
 }
 
 // Copies out an entry's bytes from byte `from` on, until the lent part is full.
-pub fn entry_bytes(bytes: &[u8], n: usize, entry: Entry, from: usize, out: &mut [u8])
-    requires sized { Sized bytes.now n }
-    requires slot_lt_n { (entry.slot < n) × (entry.length ≤ largest) × (from + length out.old ≤ entry.length) }
-    ensures { out.new ≡ take (length out.old) (drop from (data_of (round bytes.now n) entry)) }
+pub fn entry_bytes(slots: &Slots, entry: Entry, from: usize, out: &mut [u8])
+    requires { (entry.slot < slots.now.n) × (entry.length ≤ largest) × (from + length out.old ≤ entry.length) }
+    ensures { out.new ≡ take (length out.old) (drop from (data_of (round slots.now.bytes.now slots.now.n) entry)) }
 {
-    layout::take_bytes(
-        bytes,
-        n,
-        entry.slot as usize * Ring::SLOT + Ring::HEAD + from,
-        out,
-    );
+    let p = entry.slot as usize * Ring::SLOT + Ring::HEAD + from;
+    slots.take(p, out);
 }

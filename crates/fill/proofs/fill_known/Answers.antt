@@ -21,10 +21,13 @@ count_of-r-requires c = let a = c.args in
 pub held-held-requires : goal.held-held-requires
 held-held-requires c = (sure c.args.bytes.now c.args.s.now _ c.requires).few
 
+pub invariant_of-slots : goal.invariant_of-slots
+invariant_of-slots c = record { sized = (sure c.args.bytes.now c.args.s.now _ c.requires).sized }
+
 pub invariant_of-layer : goal.invariant_of-layer
 invariant_of-layer c = let k = sure c.args.bytes.now c.args.s.now _ c.requires in
     let n = ap length c.held-held.ensures in
-    (k.sized, omega (arith, n, k.long, k.few))
+    omega (arith, n, k.long, k.few)
 
 pub fill_bytes-requires : goal.fill_bytes-requires
 fill_bytes-requires c = let a = c.args in

@@ -1,5 +1,4 @@
 -- `flush::start_known` meets its contract: the laws of `Starting`, one for each way out.
-use Prim.Native.Nat.{◌≤◌}
 use mathlib.Core.Path.{◌≡◌, ◌∙◌}
 use borrow.Author.Rules.{rules}
 use native.Mathlib.Omega.{arith}
@@ -33,10 +32,13 @@ returns-then-s-eq-NUMBERS c = let a = c.args in
     let some : length c.take_batch-batch.result.items ≡ 0 → ⊥ = search (rules, common_steps) in
     start_number a.bytes.now a.s.now _ c.requires a.node a.buffer.now c.if-node-eq0.false (omega arith) _ c.take_batch-batch.ensures.entries some c.if-s-eq-NUMBERS.true
 
+pub invariant_of-slots : goal.invariant_of-slots
+invariant_of-slots c = record { sized = (sure c.args.bytes.now c.args.s.now _ c.requires).sized }
+
 pub make_sheet-requires : goal.make_sheet-requires
 make_sheet-requires c = let a = c.args in
     let same : c.deref.result.now ≡ c.take_batch-batch.result.items = search rules in
-    record { sized = (sure a.bytes.now a.s.now _ c.requires).sized; laid = batch_laid a.bytes.now a.s.now _ c.requires a.node _ (same ∙ c.take_batch-batch.ensures.entries) }
+    batch_laid a.bytes.now a.s.now _ c.requires a.node _ (same ∙ c.take_batch-batch.ensures.entries)
 
 pub returns-in_default : goal.returns-in_default
 returns-in_default c = let a = c.args in

@@ -14,7 +14,7 @@ returns-in_default c = let l = c.loop-left in
 
 pub overflow_sub-left : goal.overflow_sub-left
 overflow_sub-left c = let l = c.loop-left in
-    omega (arith, c.slots-slots.ensures, collect_fits _ _ _ _ _ _ l.invariant c.loop-left-test.true c.in-Some.entry (sym c.step_at-step.ensures ∙ c.in-Some.is))
+    omega (arith, c.slots-taken.ensures, collect_fits _ _ _ _ _ _ l.invariant c.loop-left-test.true c.in-Some.entry (sym c.step_at-step.ensures ∙ c.in-Some.is))
 
 pub push-requires : goal.push-requires
 push-requires c = let l = c.loop-left in
@@ -22,7 +22,7 @@ push-requires c = let l = c.loop-left in
 
 pub loop-left-preserved : goal.loop-left-preserved
 loop-left-preserved c = let l = c.loop-left in
-    rw c.slots-slots.ensures (collect_step _ _ _ _ _ _ l.invariant c.loop-left-test.true c.in-Some.entry (sym c.step_at-step.ensures ∙ c.in-Some.is) _ c.push.ensures.items)
+    rw c.slots-taken.ensures (collect_step _ _ _ _ _ _ l.invariant c.loop-left-test.true c.in-Some.entry (sym c.step_at-step.ensures ∙ c.in-Some.is) _ c.push.ensures.items)
 
 pub returns : goal.returns
 returns c = collect_end _ _ _ _ _ _ c.loop-left.invariant (omega arith) _ refl refl

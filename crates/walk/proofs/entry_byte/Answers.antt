@@ -7,4 +7,4 @@ use Rattle.walk.proofs.entry_byte.Goals as goal
 
 pub returns : goal.returns
 returns c = let a = c.args in
-    c.round_at.ensures ∙ sym (bytes_get a.entry.length (round a.bytes.now a.n) _ a.i (omega arith))
+    c.byte.ensures ∙ sym (bytes_get a.entry.length (round a.slots.now.bytes.now a.slots.now.n) _ a.i (omega arith))

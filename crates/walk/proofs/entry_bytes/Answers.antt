@@ -7,4 +7,4 @@ use Rattle.walk.proofs.entry_bytes.Goals as goal
 
 pub returns : goal.returns
 returns c = let a = c.args in
-    c.take_bytes.ensures ∙ sym (bytes_part a.entry.length (round a.bytes.now a.n) _ a.from _ (omega arith))
+    c.take.ensures ∙ sym (bytes_part a.entry.length (round a.slots.now.bytes.now a.slots.now.n) _ a.from _ (omega arith))

@@ -16,7 +16,7 @@ loop-k-preserved c = let a = c.args in
     let old = get_or l.out l.k 0 in
     let found : c.if-i-eq0.byte ≡ byte_over (a.from + l.k) old a.self.now =
     elim c.if-i-eq0.branch [
-      | then-i-eq0 w ↦ w.byte-is ∙ seek_none _ _ _ _ _ _ _ m.invariant w.if-i-eq0.true
-      | else-i-eq0+then-is_over w ↦ w.byte-is ∙ w.entry_byte.ensures ∙ seek_here _ _ _ _ _ _ _ m.invariant w.if-i-eq0.false (sym w.is_over.ensures ∙ w.if-is_over.true)
+      | then-i-eq0 w ↦ w.byte-is ∙ seek_none _ _ _ _ _ _ m.invariant w.if-i-eq0.true
+      | else-i-eq0+then-is_over w ↦ w.byte-is ∙ w.entry_byte.ensures ∙ seek_here _ _ _ _ _ _ m.invariant w.if-i-eq0.false (sym w.is_over.ensures ∙ w.if-is_over.true)
     ] ∙ ap (byte_over (a.from + l.k) old) c.self.view_is in
     lay_next _ _ _ _ _ l.invariant _ (omega arith) found

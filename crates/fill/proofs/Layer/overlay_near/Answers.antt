@@ -4,6 +4,7 @@ use mathlib.Core.Path.{◌≡◌, sym, ap, ◌∙◌}
 use native.Mathlib.Nat.{sub-zero}
 use native.Mathlib.Omega.{arith}
 use lib.ListN.{length, take}
+use Rattle.layout.specs.Bytes.{round}
 use Rattle.fill.specs.Overlay.{overlaid}
 use Rattle.fill.proofs.Overlaying.{over_none}
 use Rattle.fill.proofs.Nearing.{choose_yes, choose_no, choose_end, near_same}
@@ -22,7 +23,7 @@ returns-then-many-gt0 c = let a = c.args in
     let f = c.self.inside in
     let bs = a.part.now in
     let near = ap (λ j. take j m.near) (sub-zero m.many) ∙ choose_end _ _ _ _ _ m.invariant c.loop-one-test.false in
-    c.overlay.ensures ∙ near_same f.node a.from (a.from + length bs) f.held.now _ near f.bytes.now f.ring bs (omega arith) ∙ ap (λ ws. overlaid ws a.from bs) c.self.view_is
+    c.overlay.ensures ∙ near_same f.node a.from (a.from + length bs) f.held.now _ near (round f.slots.bytes.now f.slots.n) bs (omega arith) ∙ ap (λ ws. overlaid ws a.from bs) c.self.view_is
 
 pub returns-else-many-gt0 : goal.returns-else-many-gt0
 returns-else-many-gt0 c = let a = c.args in
@@ -31,4 +32,4 @@ returns-else-many-gt0 c = let a = c.args in
     let bs = a.part.now in
     let z : m.many ≡ 0 = omega (arith, c.if-many-gt0.false) in
     let near = ap (λ j. take j m.near) (sym z) ∙ choose_end _ _ _ _ _ m.invariant c.loop-one-test.false in
-    sym (over_none a.from bs) ∙ near_same f.node a.from (a.from + length bs) f.held.now _ near f.bytes.now f.ring bs (omega arith) ∙ ap (λ ws. overlaid ws a.from bs) c.self.view_is
+    sym (over_none a.from bs) ∙ near_same f.node a.from (a.from + length bs) f.held.now _ near (round f.slots.bytes.now f.slots.n) bs (omega arith) ∙ ap (λ ws. overlaid ws a.from bs) c.self.view_is

@@ -32,7 +32,7 @@ loop-piece-preserved c = let a = c.args in
     let l = c.loop-piece in
     let h = c.loop-piece-test.true in
     let q : Piece = get_or a.list.now l.piece-index no_piece in
-    let b = byte_by (round a.self.now.bytes.now a.self.now.n) a.self.now.entries.now in
+    let b = byte_by (round a.self.now.slots.bytes.now a.self.now.slots.n) a.self.now.entries.now in
     let z : l.at + q.size - l.at ≡ q.size = omega arith in
     let o = total_room a.list.now l.piece-index h in
     let r = c.requires.0 in

@@ -10,5 +10,5 @@ use Rattle.sheet.proofs.Source.put_data.Given as goal
 abbrev pub invariant-loop-piece : goal.invariant-loop-piece
 invariant-loop-piece l = record {
   reached : l.at ≡ l.from + total (take l.piece-index l.list);
-  laid : l.buffer ≡ laid_at l.initial.buffer l.from (data_by (byte_by (round l.self.bytes.now l.self.n) l.self.entries.now) (take l.piece-index l.list));
+  laid : l.buffer ≡ laid_at l.initial.buffer l.from (data_by (byte_by (round l.self.slots.bytes.now l.self.slots.n) l.self.entries.now) (take l.piece-index l.list));
 }

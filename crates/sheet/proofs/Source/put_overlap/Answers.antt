@@ -6,7 +6,7 @@ use Rattle.sheet.proofs.Source.put_overlap.Goals as goal
 
 pub returns-then-from-until : goal.returns-then-from-until
 returns-then-from-until c = let a = c.args in
-    paint_span (round a.self.now.bytes.now a.self.now.n) a.entry a.start a.out.now _ _ c.max-from.ensures c.min-until.ensures c.if-from-until.true _ c.entry_bytes.ensures
+    paint_span (round a.self.now.slots.bytes.now a.self.now.slots.n) a.entry a.start a.out.now _ _ c.max-from.ensures c.min-until.ensures c.if-from-until.true _ c.entry_bytes.ensures
 
 pub returns-else-from-until : goal.returns-else-from-until
 returns-else-from-until c = let x = c.max-from.ensures in

@@ -16,7 +16,7 @@ put_data-requires c = let p = c.requires in
 pub returns : goal.returns
 returns c = let a = c.args in
     let p = c.requires in
-    let f = round a.self.now.bytes.now a.self.now.n in
+    let f = round a.self.now.slots.bytes.now a.self.now.slots.n in
     let b = byte_by f a.self.now.entries.now in
     laid_sheet a.buffer.now _ _ _ _ b a.node a.list.now p.1 c.put_number.ensures c.put_number-2.ensures c.put_list.ensures c.put_data.ensures
     ∙ ap (λ qs. laid_at a.buffer.now 0 (sheet_by b a.node qs)) p.0
