@@ -1,11 +1,11 @@
 -- `change::report_known` meets its contract: the laws of `Changing`.
-use mathlib.Core.Path.{◌≡◌}
+use mathlib.Core.Path.{◌≡◌, ap, ◌∙◌}
+use mathlib.Core.List.{map}
+use Rattle.state.specs.Moves.{good, bad, reported}
 use mathlib.Core.Bool.{true, false}
-use borrow.Author.Rules.{rules}
-use Rattle.std.proofs.lemmas.Grind.{common_steps}
 use Rattle.state.proofs.Reports.{is_good, is_bad}
 use Rattle.rules.proofs.Owning.{sure}
-use Rattle.change.proofs.Changing.{report_none, report_other, moved_few, moved_fits, moved_slots, report_good, report_bad}
+use Rattle.change.proofs.Changing.{report_none, report_other, moved_few, moved_back, moved_fits, moved_slots, report_good, report_bad}
 use Rattle.change.proofs.report_known.Goals as goal
 
 pub returns-then-s-eq0 : goal.returns-then-s-eq0
@@ -16,31 +16,31 @@ pub returns-then-number-s : goal.returns-then-number-s
 returns-then-number-s c = let a = c.args in
     report_other a.bytes.now a.s.now _ c.requires a.number a.good c.if-number-s.true
 
-pub slice_bounds-moved-end : goal.slice_bounds-moved-end
-slice_bounds-moved-end c = let l = (sure c.args.bytes.now c.args.s.now _ c.requires).long in search (rules, common_steps)
-
-pub slice_bounds-held-end : goal.slice_bounds-held-end
-slice_bounds-held-end c = let l = (sure c.args.bytes.now c.args.s.now _ c.requires).long in search (rules, common_steps)
-
 pub let_go-requires : goal.let_go-requires
 let_go-requires c = let a = c.args in
     let k = sure a.bytes.now a.s.now _ c.requires in
-    let m = c.report_all.ensures in
-    record {
+    let m = c.report_all.ensures ∙ ap (map (reported good)) c.as_mut_slice.ensures.value in
+    rw (c.as_slice.ensures.value, moved_back a.bytes.now a.s.now _ c.requires _ is_good _ m)
+    (record {
       sized = k.sized;
       head_lt_n = (k.head, moved_few a.bytes.now a.s.now _ c.requires _ is_good _ m, moved_fits a.bytes.now a.s.now _ c.requires _ is_good _ m);
       held_bound = moved_slots a.bytes.now a.s.now _ c.requires _ is_good _ m;
-    }
+    })
 
 pub relist-requires : goal.relist-requires
-relist-requires c = moved_few c.args.bytes.now c.args.s.now _ c.requires _ is_bad _ c.report_all-else-good.ensures
+relist-requires c =
+    let m = c.report_all-else-good.ensures ∙ ap (map (reported bad)) c.as_mut_slice-else-good.ensures.value in
+    rw (c.as_slice-else-good.ensures.value, moved_back c.args.bytes.now c.args.s.now _ c.requires _ is_bad _ m) (moved_few c.args.bytes.now c.args.s.now _ c.requires _ is_bad _ m)
 
 pub returns-then-good : goal.returns-then-good
 returns-then-good c = let a = c.args in
     let g : a.good ≡ true = c.if-good.true in
-    rw g (report_good a.bytes.now a.s.now _ c.requires a.number c.if-s-eq0.false c.if-number-s.false _ _ _ c.report_all.ensures c.let_go.ensures.state c.let_go.ensures.bytes)
+    let m = c.report_all.ensures ∙ ap (map (reported good)) c.as_mut_slice.ensures.value in
+    let e = c.as_slice.ensures.value ∙ moved_back a.bytes.now a.s.now _ c.requires _ is_good _ m in
+    rw g (report_good a.bytes.now a.s.now _ c.requires a.number c.if-s-eq0.false c.if-number-s.false _ _ _ m (rw e at c.let_go.ensures.state) (rw e at c.let_go.ensures.bytes))
 
 pub returns-else-good : goal.returns-else-good
 returns-else-good c = let a = c.args in
     let g : a.good ≡ false = c.if-good.false in
-    rw g (report_bad a.bytes.now a.s.now _ c.requires a.number c.if-s-eq0.false c.if-number-s.false _ _ a.bytes.now c.report_all-else-good.ensures c.relist.ensures)
+    let m = c.report_all-else-good.ensures ∙ ap (map (reported bad)) c.as_mut_slice-else-good.ensures.value in
+    rw g (report_bad a.bytes.now a.s.now _ c.requires a.number c.if-s-eq0.false c.if-number-s.false _ _ a.bytes.now m (rw (c.as_slice-else-good.ensures.value ∙ moved_back a.bytes.now a.s.now _ c.requires _ is_bad _ m) at c.relist.ensures))

@@ -14,20 +14,16 @@ pub returns-in_default : goal.returns-in_default
 returns-in_default c = let a = c.args in
     unpin_none a.bytes.now a.s.now _ c.requires a.number c.in_default.ensures
 
-pub held-requires : goal.held-requires
-held-requires c = (sure c.args.bytes.now c.args.s.now _ c.requires).few
-
 pub let_go-requires : goal.let_go-requires
 let_go-requires c = let a = c.args in
     let k = sure a.bytes.now a.s.now _ c.requires in
     let u = k.slots in
     let f = k.free in
     let h = k.sized.high in
-    let l = k.long in
     let m = k.few in
-    rw c.held.ensures (record { sized = k.sized; head_lt_n = (k.head, omega arith, k.phases); held_bound = omega arith })
+    rw c.as_slice.ensures.value (record { sized = k.sized; head_lt_n = (k.head, omega arith, k.phases); held_bound = omega arith })
 
 pub returns : goal.returns
 returns c = let a = c.args in
     let free : c.default.result ≡ no_pin = grind arith in
-    unpin_done a.bytes.now a.s.now _ c.requires a.number c.in-Some.place c.in-Some.ensures c.if-number-eq0.false _ _ (rw (← c.held.ensures, ← free) c.let_go.ensures.state) (rw (← c.held.ensures, ← free) c.let_go.ensures.bytes)
+    unpin_done a.bytes.now a.s.now _ c.requires a.number c.in-Some.place c.in-Some.ensures c.if-number-eq0.false _ _ (rw (← c.as_slice.ensures.value, ← free) c.let_go.ensures.state) (rw (← c.as_slice.ensures.value, ← free) c.let_go.ensures.bytes)

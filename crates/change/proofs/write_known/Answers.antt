@@ -40,7 +40,7 @@ nonzero_rem-entry c = let a = c.args in
 
 pub overflow_cast-entry-2 : goal.overflow_cast-entry-2
 overflow_cast-entry-2 c = let a = c.args in
-    let g = a.judged.now.ring in
+    let g = a.judged.ring in
     let k = sure a.bytes.now a.s.now _ c.requires in
     let h = k.head in
     let z = k.sized.high in
@@ -49,7 +49,7 @@ overflow_cast-entry-2 c = let a = c.args in
 
 pub store-requires : goal.store-requires
 store-requires c = let a = c.args in
-    let g = a.judged.now.ring in
+    let g = a.judged.ring in
     let k = sure a.bytes.now a.s.now _ c.requires in
     let w = writable a.bytes.now a.s.now _ c.requires a.node a.handle a.offset a.src.now _ refl (sym c.in_ok-may_write.ensures) in
     let h = k.head in
