@@ -6,24 +6,22 @@ use mathlib.Core.Bool.{Bool, true, false}
 use mathlib.Core.List.{List, [], ◌∷◌, ◌++◌, map}
 use native.Mathlib.Omega.{arith}
 use borrow.Author.Tests.{eq-eqb, ne_eqb, lt-ltb, le-ltb}
-use lib.ListN.{length, take, drop, get_or, length-map, length-take, get_or-append}
+use lib.ListN.{length, take, get_or, length-map, length-take}
 use lib.Seq.{take_at}
 use lib.Dec.{eqb, ltb}
 use Rattle.reason.specs.declared.Reason.TheVariants.{NodeZero, NoNumber, FlushUnderWay, BadBuffer}
 use Rattle.layout.specs.Sizes.{number_limit, most_entries}
 use Rattle.layout.specs.Bytes.{both, round}
-use Rattle.layout.specs.declared.Ring.{Ring}
 use Rattle.layout.proofs.Tests.{never}
 use Rattle.walk.specs.declared.Entry.{Entry}
 use Rattle.walk.specs.Walk.{readable, no_entry, write_of}
 use Rattle.walk.proofs.Chain.{InRing}
 use Rattle.state.specs.declared.State.{State}
 use Rattle.state.specs.declared.Held.{Held}
-use Rattle.state.specs.Lists.{pick, filled, entry_of, with_next, with_flush, with_held, those}
+use Rattle.state.specs.Lists.{pick, entry_of, with_next, with_flush, with_held, those}
 use Rattle.state.specs.Batch.{most_batch, is_waiting, batch_of, taken_of}
 use Rattle.state.proofs.Finding.{each_at, each_take, each_map}
 use Rattle.state.proofs.Those.{each_those}
-use Rattle.state.proofs.Loops.{filled_long}
 use Rattle.sheet.specs.Sheet.{sheet_of, laid_at}
 use Rattle.sheet.specs.Places.{Laid, laid_if, made_from}
 use Rattle.judge.specs.declared.Judged.{Judged}

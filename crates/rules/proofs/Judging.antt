@@ -14,7 +14,6 @@ use Rattle.layout.proofs.Tests.{never}
 use Rattle.walk.specs.declared.Entry.{Entry}
 use Rattle.walk.specs.Walk.{Reading, readable, unreadable, reading_of}
 use Rattle.state.specs.declared.State.{State}
-use Rattle.state.specs.declared.Held.{Held}
 use Rattle.state.specs.Lists.{holding, listed}
 use Rattle.judge.specs.declared.Judged.{Judged}
 use Rattle.judge.specs.Fits.{fits}

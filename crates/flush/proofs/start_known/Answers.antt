@@ -1,5 +1,4 @@
 -- `flush::start_known` meets its contract: the laws of `Starting`, one for each way out.
-use Prim.Native.Nat.{◌≤◌}
 use mathlib.Core.Path.{◌≡◌, ◌∙◌}
 use borrow.Author.Rules.{rules}
 use native.Mathlib.Omega.{arith}
