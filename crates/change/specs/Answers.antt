@@ -1,5 +1,5 @@
 -- What an answer says on paper: the refusal's number, or the values. Document 01, "When the box says no".
-use Rattle.std.specs.Prelude.{ℕ, [], ◌∷◌, Option, None, Some, Result, Ok, Err}
+use Rattle.std.specs.Prelude.{ℕ, [], ◌∷◌, Result}
 use Rattle.reason.specs.declared.Reason.{Reason}
 use Rattle.rules.specs.Outcome.{Said, said_by}
 
@@ -10,8 +10,3 @@ said_number = said_by (λ n. n ∷ [])
 -- make, unpin, report: nothing but done
 abbrev pub said_done : Result (Unit {0}) Reason → Said
 said_done = said_by (λ done. [])
-
--- a call's own refusals, in code
-abbrev pub may_of : Option Reason → Result (Unit {0}) Reason
-may_of None = Ok tt
-may_of (Some why) = Err why

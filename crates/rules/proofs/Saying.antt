@@ -1,5 +1,5 @@
 -- What is said on paper tells one answer from another: refusals by their numbers, answers by their values.
-use Rattle.std.specs.Prelude.{Some, Result, Ok, Err}
+use Rattle.std.specs.Prelude.{Option, None, Some, Result, Ok, Err}
 use Prim.Native.Nat.{ℕ, ◌<◌}
 use mathlib.Core.Path.{◌≡◌, refl, sym, ◌∙◌, ap}
 use mathlib.Core.List.{List, [], ◌∷◌}
@@ -10,7 +10,7 @@ use Rattle.reason.specs.declared.Reason.TheVariants.{NodeZero, BadLength, PastFi
 use Rattle.reason.specs.Reason.{number_of}
 use Rattle.layout.proofs.Tests.{never}
 use Rattle.rules.specs.Refusals.{order, first}
-use Rattle.rules.specs.Outcome.{says, refuses, said_by}
+use Rattle.rules.specs.Outcome.{says, refuses, said_by, may_of}
 use Rattle.rules.proofs.Order.{same_some}
 
 -- ---- a refusal's number tells its reason, and is never 0
@@ -52,6 +52,21 @@ apart vs w e =
     let z : 0 ≡ number_of w = ap (λ x. x.refusal) e in
     let h = number_some w in
     absurd (omega arith)
+
+-- ---- in code: leave or a refusal tells the paper's
+
+pub may_none : (x : Option Reason) (t : Unit {0}) → Ok t ≡ may_of x → x ≡ None
+may_none None t e = refl
+may_none (Some why) t e = never (cc)
+
+same_may : (a b : Reason) → ◌≡◌ {A = Result (Unit {0}) Reason} (Err a) (Err b) → a ≡ b
+same_may a b e = cc
+
+pub may_some : (x : Option Reason) (why : Reason) → Err why ≡ may_of x → x ≡ Some why
+may_some None why e = never (cc)
+may_some (Some w) why e = ap Some (same_may w why (sym e))
+
+-- ---- an answer
 
 -- where the values tell the answer, what it says tells it
 pub said_one : {T : Type 0} (f : T → List ℕ) → ((x y : T) → f x ≡ f y → x ≡ y) → (a b : Result T Reason) → said_by f a ≡ said_by f b → a ≡ b

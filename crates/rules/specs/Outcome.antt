@@ -51,6 +51,11 @@ abbrev pub said_by : {T : Type 0} → (T → List ℕ) → Result T Reason → S
 said_by f (Ok x) = says (f x)
 said_by f (Err why) = refuses why
 
+-- in code, of a call that gives nothing but leave: none, or the refusal
+abbrev pub may_of : Option Reason → Result (Unit {0}) Reason
+may_of None = Ok tt
+may_of (Some why) = Err why
+
 -- ---- each call that isn't refused, on the ring g with its held writes hs
 
 -- write: stored at the tail under the next number, Unflushed
