@@ -7,6 +7,8 @@ use mathlib.Core.List.{List, [], ◌∷◌, ◌++◌, map}
 use native.Mathlib.Omega.{arith}
 use borrow.Author.Tests.{eq-eqb, ne_eqb, lt-ltb, le-ltb}
 use lib.ListN.{length, take, set, length-map}
+use native.Mathlib.Numerals.{add-one}
+use lib.Seq.{take-suc-set}
 use lib.Dec.{eqb, ltb}
 use Rattle.reason.specs.declared.Reason.{Reason}
 use Rattle.reason.specs.declared.Reason.TheVariants.{NotTheFlush, NoSuchPin}
@@ -41,6 +43,10 @@ judges_unpin number = record { reads = refl; fits = refl }
 
 pub judges_report : (number : ℕ) (went : Bool) → Judges (report number went)
 judges_report number went = record { reads = refl; fits = refl }
+
+-- one more behind those in front
+pub one_more : (hs : List Held) (n : ℕ) (h : Held) → n < length hs → take (n + 1) (set hs n h) ≡ take n hs ++ h ∷ []
+one_more hs n h l = rw (add-one n, take-suc-set hs n h l) refl
 
 module _ (r : List ℕ) (s : State) (j : Judged) (k : Known r s j) where
   -- ---- unpin

@@ -116,6 +116,7 @@ fn may_write(s: &State, ring: Ring, node: u32, offset: u32, src: &[u8]) -> Resul
 }
 
 // Lists one write more, which takes the next number.
+#[tactic(auto, using(crate::proofs::Changing::one_more))]
 fn add_write(s: &mut State, mut judged: Judged, entry: Entry)
     requires { (judged.count < most_entries) × (s.old.next < number_limit) }
     ensures { s.new ≡ with_next (with_held s.old (take judged.count judged.held ++ record { entry = entry; phase = unflushed } ∷ [])) (s.old.next + 1) }

@@ -1,4 +1,5 @@
 -- `change::write_known` meets its contract: the laws of `Changing`.
+-- Named on the function they close no goal: a tactic takes the fact `Known` apart, and doesn't see that a law wants it whole.
 use Prim.Native.Nat.{◌<◌, ◌+◌, ◌%◌}
 use mathlib.Core.Path.{refl}
 use native.Mathlib.Nat.{mod-lt}
