@@ -1,6 +1,8 @@
 -- What each return of make and reopen comes to: a ring that is made reopens as empty.
 use Rattle.std.specs.Prelude.{Result, Ok, Err}
-use Prim.Native.Nat.{ℕ}
+use borrow.Author.Rules.{rules}
+use Rattle.std.proofs.lemmas.Grind.{common_steps}
+use Prim.Native.Nat.{ℕ, ◌≤◌}
 use mathlib.Core.Path.{◌≡◌, refl, sym, ◌∙◌, ap}
 use mathlib.Core.Bool.{Bool, true, false}
 use mathlib.Core.List.{List, [], ◌∷◌}
@@ -12,14 +14,15 @@ use Rattle.layout.specs.declared.Ring.{Ring}
 use Rattle.layout.proofs.Tests.{never, sized_sound}
 use Rattle.walk.specs.declared.Entry.{Entry}
 use Rattle.walk.specs.declared.Walked.{Walked}
-use Rattle.walk.specs.Walk.{Reading, readable, unreadable, reading_of, answer_of}
+use Rattle.layout.specs.Sizes.{most_entries}
+use Rattle.walk.specs.Walk.{Rising, Reading, readable, unreadable, reading_of, answer_of}
 use Rattle.walk.proofs.Readings.{answer_refused}
 use Rattle.store.specs.Store.{slots_for, is_makeable, made, made_answer}
 use Rattle.ring.specs.Ring.{empty_ring}
 use Rattle.ring.proofs.Laws.{made_reads}
 use Rattle.state.specs.declared.State.{State}
 use Rattle.state.specs.Lists.{reopened}
-use Rattle.judge.proofs.Rules.{read_entries}
+use Rattle.judge.proofs.Rules.{read_entries, walked_few}
 use Rattle.rules.specs.Call.{make_ring, reopen_ring}
 use Rattle.rules.specs.Refusals.{refusal_of}
 use Rattle.rules.specs.Outcome.{outcome_by, says, refuses, outcome}
@@ -41,9 +44,13 @@ module _ (r : List ℕ) (s : State) where
   pub reopen_refused : (why : Reason) → Err why ≡ answer_of (reading_of r) → outcome_by (refuses why) s r ≡ outcome reopen_ring r s
   reopen_refused why e = refused_at why (reading_of r) refl e
 
-  pub reopen_done : (w : Walked) (t : State) → Ok w ≡ answer_of (reading_of r) → t ≡ reopened w.entries.items
-      → outcome_by (says (t.next ∷ [])) t r ≡ outcome reopen_ring r s
-  reopen_done w t e et = rw et (reopens w.ring w.entries.items (read_entries (reading_of r) w e))
+  -- the walk's entries are es
+  module _ (w : Walked) (o : Ok w ≡ answer_of (reading_of r)) (es : List Entry) (h : es ≡ w.entries.items) where
+    pub walked : (length es ≤ most_entries) × Rising 0 es
+    walked = rw h (walked_few r w o)
+
+    pub reopen_done : outcome reopen_ring r s ≡ outcome_by (says ((reopened es).next ∷ [])) (reopened es) r
+    reopen_done = rw h (sym (reopens w.ring w.entries.items (read_entries (reading_of r) w o)))
 
 -- ---- make
 

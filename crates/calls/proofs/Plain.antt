@@ -1,15 +1,17 @@
 -- What each return of the plain calls comes to, by the table's order and the outcome.
-use Prim.Native.Nat.{ℕ, ◌+◌, ◌<◌}
+use Rattle.std.specs.Prelude.{Ok}
+use Prim.Native.Nat.{ℕ, ◌+◌, ◌<◌, ◌≤◌}
 use mathlib.Core.Path.{◌≡◌, refl, sym, ◌∙◌}
-use mathlib.Core.Bool.{Bool}
+use mathlib.Core.Bool.{Bool, true}
 use mathlib.Core.List.{List, [], ◌∷◌}
 use borrow.Author.Tests.{eq-eqb, ne_eqb}
 use lib.ListN.{length, take, set}
 use Rattle.reason.specs.declared.Reason.TheVariants.{NodeZero, NoNumber, TooManyPins}
-use Rattle.layout.specs.Sizes.{number_limit}
-use Rattle.walk.specs.Walk.{readable}
+use Rattle.layout.specs.Sizes.{most_entries, number_limit}
+use Rattle.walk.specs.Walk.{readable, reading_of}
 use Rattle.state.specs.declared.State.{State}
-use Rattle.state.specs.Lists.{with_next, with_pins}
+use Rattle.state.specs.declared.Held.{Held}
+use Rattle.state.specs.Lists.{with_next, with_pins, RisingTo, all, phase_fits}
 use Rattle.state.specs.Pins.{mark_of, pin_place}
 use Rattle.state.specs.Asks.{cached_end, turn_of, ticket_done}
 use Rattle.state.proofs.PinTable.{place_none, place_some}
@@ -17,8 +19,9 @@ use Rattle.judge.specs.declared.Judged.{Judged}
 use Rattle.rules.specs.Call.{pin, ask_end, take_ticket, ask_ticket, ask_turn}
 use Rattle.rules.specs.Outcome.{outcome_by, says, refuses, bit, outcome}
 use Rattle.rules.specs.Known.{Known}
-use Rattle.rules.proofs.Judging.{Judges, judge_passes}
-use Rattle.rules.proofs.Owning.{own_pin, own_end, own_ticket, own_ask, own_turn}
+use Rattle.judge.specs.Answers.{judged_of}
+use Rattle.rules.proofs.Judging.{Judges, known, judge_passes}
+use Rattle.rules.proofs.Owning.{sure, own_pin, own_end, own_ticket, own_ask, own_turn}
 
 pub judges_ticket : Judges take_ticket
 judges_ticket = record { reads = refl; fits = refl }
@@ -35,7 +38,27 @@ judges_end node = record { reads = refl; fits = refl }
 pub judges_pin : (node : ℕ) → Judges (pin node)
 judges_pin node = record { reads = refl; fits = refl }
 
-module _ (r : List ℕ) (s : State) (j : Judged) (k : Known r s j) where
+-- the judge lets the call pass, and hs are the held writes
+module _ (r : List ℕ) (s : State) (j : Judged) (o : Ok j ≡ judged_of (reading_of r) s) where
+  k : Known r s j
+  k = known r s j o
+
+  pub few : j.count ≤ most_entries
+  few = (sure r s j k).few
+
+  pub next_limit : s.next ≤ number_limit
+  next_limit = (sure r s j k).next
+
+  module _ (hs : List Held) (h : hs ≡ j.held.items) where
+    pub below : RisingTo s.next 0 hs
+    below = rw h (sure r s j k).below
+
+    pub limit : RisingTo number_limit 0 hs
+    limit = rw h (sure r s j k).limit
+
+    pub phases : all phase_fits hs ≡ true
+    phases = rw h (sure r s j k).phases
+
   -- ---- take a ticket
 
   pub ticket_none : s.next ≡ number_limit → outcome_by (refuses NoNumber) s r ≡ outcome take_ticket r s
@@ -46,22 +69,22 @@ module _ (r : List ℕ) (s : State) (j : Judged) (k : Known r s j) where
 
   -- ---- ask a ticket
 
-  pub ask_done : (ticket node : ℕ) (b : Bool) → b ≡ ticket_done ticket node j.held.items
+  pub ask_done : (ticket node : ℕ) (b : Bool) → (hs : List Held) → hs ≡ j.held.items → b ≡ ticket_done ticket node hs
       → outcome_by (says (bit b ∷ [])) s r ≡ outcome (ask_ticket ticket node) r s
-  ask_done ticket node b e = sym (judge_passes (ask_ticket ticket node) (judges_ask ticket node) r s j k ∙ rw (own_ask r (readable j.ring k.entries) s ticket node, ← e))
+  ask_done ticket node b hs h e = sym (judge_passes (ask_ticket ticket node) (judges_ask ticket node) r s j k ∙ rw (own_ask r (readable j.ring k.entries) s ticket node, ← h, ← e))
 
   -- ---- whose turn
 
-  pub turn_done : (n : ℕ) → n ≡ turn_of j.held.items → outcome_by (says (n ∷ [])) s r ≡ outcome ask_turn r s
-  turn_done n e = sym (judge_passes ask_turn judges_turn r s j k ∙ rw (own_turn r (readable j.ring k.entries) s, ← e))
+  pub turn_done : (n : ℕ) (hs : List Held) → hs ≡ j.held.items → n ≡ turn_of hs → outcome_by (says (n ∷ [])) s r ≡ outcome ask_turn r s
+  turn_done n hs h e = sym (judge_passes ask_turn judges_turn r s j k ∙ rw (own_turn r (readable j.ring k.entries) s, ← h, ← e))
 
   -- ---- cached end
 
   pub end_zero : (node : ℕ) → node ≡ 0 → outcome_by (refuses NodeZero) s r ≡ outcome (ask_end node) r s
   end_zero node e = sym (judge_passes (ask_end node) (judges_end node) r s j k ∙ rw (own_end r (readable j.ring k.entries) s node, eq-eqb node 0 e))
 
-  pub end_done : (node n : ℕ) → (node ≡ 0 → ⊥) → n ≡ cached_end node j.held.items → outcome_by (says (n ∷ [])) s r ≡ outcome (ask_end node) r s
-  end_done node n z e = sym (judge_passes (ask_end node) (judges_end node) r s j k ∙ rw (own_end r (readable j.ring k.entries) s node, ne_eqb node 0 z, ← e))
+  pub end_done : (node n : ℕ) → (node ≡ 0 → ⊥) → (hs : List Held) → hs ≡ j.held.items → n ≡ cached_end node hs → outcome_by (says (n ∷ [])) s r ≡ outcome (ask_end node) r s
+  end_done node n z hs h e = sym (judge_passes (ask_end node) (judges_end node) r s j k ∙ rw (own_end r (readable j.ring k.entries) s node, ne_eqb node 0 z, ← h, ← e))
 
   -- ---- pin
 
@@ -73,9 +96,9 @@ module _ (r : List ℕ) (s : State) (j : Judged) (k : Known r s j) where
     pin_number n =
         sym (judge_passes (pin node) (judges_pin node) r s j k ∙ rw (own_pin r (readable j.ring k.entries) s node, place_some s.pins 0 place e.0 e.1, eq-eqb s.next number_limit n))
 
-    pub pin_done_law : (s.next ≡ number_limit → ⊥) → (mark : ℕ) → mark ≡ mark_of node s.next j.held.items
+    pub pin_done_law : (s.next ≡ number_limit → ⊥) → (mark : ℕ) (hs : List Held) → hs ≡ j.held.items → mark ≡ mark_of node s.next hs
         → outcome_by (says (s.next ∷ [])) (with_next (with_pins s (set s.pins place (record { number = s.next; mark = mark; node = node }))) (s.next + 1)) r
         ≡ outcome (pin node) r s
-    pin_done_law n mark m =
+    pin_done_law n mark hs h m =
         sym (judge_passes (pin node) (judges_pin node) r s j k
-        ∙ rw (own_pin r (readable j.ring k.entries) s node, place_some s.pins 0 place e.0 e.1, ne_eqb s.next number_limit n, ← m, ← e.0))
+        ∙ rw (own_pin r (readable j.ring k.entries) s node, place_some s.pins 0 place e.0 e.1, ne_eqb s.next number_limit n, ← h, ← m, ← e.0))

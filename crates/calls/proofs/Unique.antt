@@ -1,5 +1,5 @@
 -- No two different outcomes meet a call's promise. Document 01, "How firmly each answer is tied down".
-use Rattle.std.specs.Prelude.{Result, Ok, Err}
+use Rattle.std.specs.Prelude.{Result}
 use mathlib.Core.Bool.{Bool, true, false}
 use Prim.Native.Nat.{ℕ}
 use mathlib.Core.Path.{◌≡◌, refl, sym, ◌∙◌, ap}
@@ -8,7 +8,7 @@ use native.Mathlib.Omega.{arith}
 use Rattle.state.specs.declared.State.{State}
 use Rattle.rules.specs.Call.{Call}
 use Rattle.rules.specs.Outcome.{outcome_by, bit, outcome}
-use Rattle.rules.proofs.Saying.{refuses_one, apart, same_value}
+use Rattle.rules.proofs.Saying.{said_one, same_value}
 use Rattle.reason.specs.declared.Reason.{Reason}
 use Rattle.change.specs.Answers.{said_number, said_done}
 use Rattle.calls.specs.Answers.{said_end, said_ticket, said_turn}
@@ -16,16 +16,10 @@ use Rattle.calls.specs.Answers.{said_end, said_ticket, said_turn}
 -- ---- what an answer says tells the answer
 
 number_one : (a b : Result ℕ Reason) → said_number a ≡ said_number b → a ≡ b
-number_one (Ok m) (Ok n) e = ap Ok (same_value m n e)
-number_one (Ok m) (Err w) e = apart (m ∷ []) w e
-number_one (Err v) (Ok n) e = apart (n ∷ []) v (sym e)
-number_one (Err v) (Err w) e = ap Err (refuses_one v w e)
+number_one = said_one (λ n. n ∷ []) same_value
 
 done_one : (a b : Result Unit Reason) → said_done a ≡ said_done b → a ≡ b
-done_one (Ok x) (Ok y) e = refl
-done_one (Ok x) (Err w) e = apart [] w e
-done_one (Err v) (Ok y) e = apart [] v (sym e)
-done_one (Err v) (Err w) e = ap Err (refuses_one v w e)
+done_one = said_one (λ done. []) (λ x y e. refl)
 
 bit_one : (a b : Bool) → bit a ≡ bit b → a ≡ b
 bit_one true true e = refl
@@ -34,10 +28,7 @@ bit_one false true e = absurd (omega arith)
 bit_one false false e = refl
 
 ticket_one : (a b : Result Bool Reason) → said_ticket a ≡ said_ticket b → a ≡ b
-ticket_one (Ok a) (Ok b) e = ap Ok (bit_one a b (same_value (bit a) (bit b) e))
-ticket_one (Ok a) (Err w) e = apart (bit a ∷ []) w e
-ticket_one (Err v) (Ok b) e = apart (bit b ∷ []) v (sym e)
-ticket_one (Err v) (Err w) e = ap Err (refuses_one v w e)
+ticket_one = said_one (λ done. bit done ∷ []) (λ a b e. bit_one a b (same_value (bit a) (bit b) e))
 
 -- ---- the promises, each of a call c on a ring r and a state s
 

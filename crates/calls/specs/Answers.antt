@@ -1,19 +1,16 @@
 -- What an answer that leaves the state alone says on paper: the refusal's number, or the values. Document 01, "When the box says no".
-use Rattle.std.specs.Prelude.{ℕ, Bool, [], ◌∷◌, Result, Ok, Err}
+use Rattle.std.specs.Prelude.{ℕ, Bool, [], ◌∷◌, Result}
 use Rattle.reason.specs.declared.Reason.{Reason}
-use Rattle.rules.specs.Outcome.{Said, says, refuses, bit}
+use Rattle.rules.specs.Outcome.{Said, said_by, bit}
 
 -- cached end
 abbrev pub said_end : Result ℕ Reason → Said
-said_end (Ok e) = says (e ∷ [])
-said_end (Err why) = refuses why
+said_end = said_by (λ e. e ∷ [])
 
 -- ask a ticket: 1 for done, 0 for not yet
 abbrev pub said_ticket : Result Bool Reason → Said
-said_ticket (Ok done) = says (bit done ∷ [])
-said_ticket (Err why) = refuses why
+said_ticket = said_by (λ done. bit done ∷ [])
 
 -- whose turn: a node, or 0
 abbrev pub said_turn : Result ℕ Reason → Said
-said_turn (Ok n) = says (n ∷ [])
-said_turn (Err why) = refuses why
+said_turn = said_by (λ n. n ∷ [])

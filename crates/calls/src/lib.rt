@@ -14,6 +14,7 @@ use reason::Reason;
 use state::{Pin, State};
 
 // Takes a ticket: a number, for asking later what has been flushed.
+#[tactic(auto, using(rules::proofs::Judging::judge_refuses, crate::proofs::Plain::judges_ticket, crate::proofs::Plain::ticket_none, crate::proofs::Plain::ticket_done_law, crate::proofs::Plain::next_limit))]
 pub fn take_ticket(bytes: &[u8], s: &mut State) -> Result<u64, Reason>
     ensures { outcome_by (said_number result) s.new bytes.now ≡ outcome take_ticket bytes.now s.old }
 {
@@ -27,6 +28,7 @@ pub fn take_ticket(bytes: &[u8], s: &mut State) -> Result<u64, Reason>
 }
 
 // Whether every write in reach that was accepted before a ticket has been flushed, or has left.
+#[tactic(auto, using(rules::proofs::Judging::judge_refuses, crate::proofs::Plain::judges_ask, crate::proofs::Plain::ask_done, crate::proofs::Plain::few, crate::proofs::Plain::phases))]
 pub fn ask_ticket(bytes: &[u8], s: &State, ticket: u64, node: u32) -> Result<bool, Reason>
     ensures { outcome_by (said_ticket result) s.now bytes.now ≡ outcome (ask_ticket ticket node) bytes.now s.now }
 {
@@ -35,6 +37,7 @@ pub fn ask_ticket(bytes: &[u8], s: &State, ticket: u64, node: u32) -> Result<boo
 }
 
 // The node of the lowest-numbered Unflushed write, or 0.
+#[tactic(auto, using(rules::proofs::Judging::judge_refuses, crate::proofs::Plain::judges_turn, crate::proofs::Plain::turn_done, crate::proofs::Plain::few, crate::proofs::Plain::limit))]
 pub fn whose_turn(bytes: &[u8], s: &State) -> Result<u32, Reason>
     ensures { outcome_by (said_turn result) s.now bytes.now ≡ outcome ask_turn bytes.now s.now }
 {
@@ -43,6 +46,7 @@ pub fn whose_turn(bytes: &[u8], s: &State) -> Result<u32, Reason>
 }
 
 // The end that a node's file has at least, once its writes are laid on.
+#[tactic(auto, using(rules::proofs::Judging::judge_refuses, crate::proofs::Plain::judges_end, crate::proofs::Plain::end_zero, crate::proofs::Plain::end_done, crate::proofs::Plain::few))]
 pub fn cached_end(bytes: &[u8], s: &State, node: u32) -> Result<u64, Reason>
     ensures { outcome_by (said_end result) s.now bytes.now ≡ outcome (ask_end node) bytes.now s.now }
 {
@@ -54,6 +58,7 @@ pub fn cached_end(bytes: &[u8], s: &State, node: u32) -> Result<u64, Reason>
 }
 
 // Pins a node, or all: what is in reach stays in the ring until unpinned, from the mark on.
+#[tactic(auto, using(rules::proofs::Judging::judge_refuses, crate::proofs::Plain::judges_pin, crate::proofs::Plain::pin_full, crate::proofs::Plain::pin_number, crate::proofs::Plain::pin_done_law, crate::proofs::Plain::few, crate::proofs::Plain::below, crate::proofs::Plain::phases, crate::proofs::Plain::next_limit))]
 pub fn pin(bytes: &[u8], s: &mut State, node: u32) -> Result<u64, Reason>
     ensures { outcome_by (said_number result) s.new bytes.now ≡ outcome (pin node) bytes.now s.old }
 {
@@ -72,6 +77,7 @@ pub fn pin(bytes: &[u8], s: &mut State, node: u32) -> Result<u64, Reason>
 }
 
 // Ends a pin; what it alone kept leaves.
+#[tactic(auto, using(rules::proofs::Judging::known, rules::proofs::Judging::judge_refuses, change::proofs::Changing::judges_unpin))]
 pub fn unpin(bytes: &mut [u8], s: &mut State, number: u64) -> Result<(), Reason>
     ensures { outcome_by (said_done result) s.new bytes.new ≡ outcome (unpin number) bytes.old s.old }
 {
@@ -80,6 +86,7 @@ pub fn unpin(bytes: &mut [u8], s: &mut State, number: u64) -> Result<(), Reason>
 }
 
 // Tells how the flush under way went: good, the whole sheet landed; bad, any of its bytes may have.
+#[tactic(auto, using(rules::proofs::Judging::known, rules::proofs::Judging::judge_refuses, change::proofs::Changing::judges_report))]
 pub fn report(bytes: &mut [u8], s: &mut State, number: u64, good: bool) -> Result<(), Reason>
     ensures { outcome_by (said_done result) s.new bytes.new ≡ outcome (report number good) bytes.old s.old }
 {
@@ -88,6 +95,7 @@ pub fn report(bytes: &mut [u8], s: &mut State, number: u64, good: bool) -> Resul
 }
 
 // The state of a ring as it is reopened: every entry Unflushed.
+#[tactic(auto, using(crate::proofs::Opening::walked, crate::proofs::Opening::reopen_refused, crate::proofs::Opening::reopen_done))]
 pub fn reopen(bytes: &[u8], s: &mut State) -> Result<u64, Reason>
     ensures { outcome_by (said_number result) s.new bytes.now ≡ outcome reopen_ring bytes.now s.old }
 {
@@ -97,6 +105,7 @@ pub fn reopen(bytes: &[u8], s: &mut State) -> Result<u64, Reason>
 }
 
 // Makes an empty ring of the buffer, and its state.
+#[tactic(auto, using(crate::proofs::Opening::make_refused, crate::proofs::Opening::make_done))]
 pub fn make(bytes: &mut [u8], s: &mut State) -> Result<(), Reason>
     ensures { outcome_by (said_done result) s.new bytes.new ≡ outcome make_ring bytes.old s.old }
 {
@@ -106,6 +115,7 @@ pub fn make(bytes: &mut [u8], s: &mut State) -> Result<(), Reason>
 }
 
 // Keeps a write in the ring, to be flushed later.
+#[tactic(auto, using(rules::proofs::Judging::known, rules::proofs::Judging::judge_refuses, change::proofs::Changing::judges_write))]
 pub fn write(
     bytes: &mut [u8],
     s: &mut State,

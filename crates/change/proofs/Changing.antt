@@ -1,5 +1,5 @@
 -- What each return of write, unpin and report comes to: the calls that change the ring.
-use Rattle.std.specs.Prelude.{Option, None, Some, Result, Ok, Err}
+use Rattle.std.specs.Prelude.{None, Result, Ok, Err}
 use Prim.Native.Nat.{ℕ, ◌+◌, ◌≤◌, ◌<◌}
 use Rattle.std.specs.List.{refill}
 use mathlib.Core.Path.{◌≡◌, refl, sym, ◌∙◌, ap}
@@ -14,7 +14,6 @@ use Rattle.reason.specs.declared.Reason.{Reason}
 use Rattle.reason.specs.declared.Reason.TheVariants.{NotTheFlush, NoSuchPin}
 use Rattle.layout.specs.Sizes.{most_entries}
 use Rattle.layout.specs.Bytes.{both}
-use Rattle.layout.proofs.Tests.{never}
 use Rattle.walk.specs.declared.Entry.{Entry}
 use Rattle.walk.specs.Walk.{readable, slots_used}
 use Rattle.store.specs.Store.{stored, head_moved}
@@ -30,11 +29,11 @@ use Rattle.state.proofs.PinTable.{place_none, place_some}
 use Rattle.judge.specs.declared.Judged.{Judged}
 use Rattle.rules.specs.Call.{write, unpin, report}
 use Rattle.rules.specs.Refusals.{own}
-use Rattle.rules.specs.Outcome.{outcome_by, says, refuses, new_entry, outcome}
+use Rattle.rules.specs.Outcome.{outcome_by, says, refuses, new_entry, may_of, outcome}
 use Rattle.rules.specs.Known.{Known}
 use Rattle.rules.proofs.Judging.{Judges, judge_passes}
 use Rattle.rules.proofs.Owning.{own_write, own_unpin, own_report, sure, Writable, writes_when}
-use Rattle.change.specs.Answers.{may_of}
+use Rattle.rules.proofs.Saying.{may_none, may_some}
 
 pub judges_write : (node handle offset : ℕ) (bs : List ℕ) → Judges (write node handle offset bs)
 judges_write node handle offset bs = record { reads = refl; fits = refl }
@@ -42,11 +41,8 @@ judges_write node handle offset bs = record { reads = refl; fits = refl }
 pub judges_unpin : (number : ℕ) → Judges (unpin number)
 judges_unpin number = record { reads = refl; fits = refl }
 
-pub judges_report : (number : ℕ) (good : Bool) → Judges (report number good)
-judges_report number good = record { reads = refl; fits = refl }
-
-same_may : (a b : Reason) → ◌≡◌ {A = Result (Unit {0}) Reason} (Err a) (Err b) → a ≡ b
-same_may a b e = cc
+pub judges_report : (number : ℕ) (went : Bool) → Judges (report number went)
+judges_report number went = record { reads = refl; fits = refl }
 
 module _ (r : List ℕ) (s : State) (j : Judged) (k : Known r s j) where
   -- ---- unpin
@@ -126,31 +122,26 @@ module _ (r : List ℕ) (s : State) (j : Judged) (k : Known r s j) where
 
   -- ---- write
 
-  module _ (node handle offset : ℕ) (bs : List ℕ) (m : Result (Unit {0}) Reason) (em : m ≡ may_of (own (write node 0 offset bs) [] (readable j.ring []) s)) where
-    may_none : (x : Option Reason) → may_of x ≡ Ok tt → x ≡ None
-    may_none None e = refl
-    may_none (Some why) e = never (cc)
-
-    may_some : (x : Option Reason) (why : Reason) → may_of x ≡ Err why → x ≡ Some why
-    may_some None why e = never (cc)
-    may_some (Some w) why e = ap Some (same_may w why e)
+  module _ (node handle offset : ℕ) (bs : List ℕ) where
+    abbrev verdict : Result (Unit {0}) Reason
+    verdict = may_of (own (write node 0 offset bs) [] (readable j.ring []) s)
 
     same : own (write node handle offset bs) r (readable j.ring k.entries) s ≡ own (write node 0 offset bs) [] (readable j.ring []) s
     same = own_write r (readable j.ring k.entries) s node handle offset bs ∙ sym (own_write [] (readable j.ring []) s node 0 offset bs)
 
-    pub write_refused : (why : Reason) → m ≡ Err why → outcome_by (refuses why) s r ≡ outcome (write node handle offset bs) r s
+    pub write_refused : (why : Reason) → Err why ≡ verdict → outcome_by (refuses why) s r ≡ outcome (write node handle offset bs) r s
     write_refused why e =
-        sym (judge_passes (write node handle offset bs) (judges_write node handle offset bs) r s j k ∙ rw (same ∙ may_some _ why (sym em ∙ e)))
+        sym (judge_passes (write node handle offset bs) (judges_write node handle offset bs) r s j k ∙ rw (same ∙ may_some _ why e))
 
-    module _ (e : m ≡ Ok tt) where
+    module _ (t : Unit {0}) (e : Ok t ≡ verdict) where
       goes : own (write node 0 offset bs) [] (readable j.ring []) s ≡ None
-      goes = may_none _ (sym em ∙ e)
+      goes = may_none _ t e
 
       pub writable : Writable j.ring s node offset (length bs)
       writable = writes_when j.ring s node offset bs goes
 
-      pub write_done_law : (x : Entry) (t : State) (r' : List ℕ) → x ≡ new_entry j.ring s.next (write node handle offset bs)
-          → t ≡ with_next (with_held s (j.held.items ++ record { entry = x; phase = unflushed } ∷ [])) (s.next + 1)
-          → r' ≡ stored r j.ring.n x bs → outcome_by (says (s.next ∷ [])) t r' ≡ outcome (write node handle offset bs) r s
-      write_done_law x t r' ex et er =
+      pub write_done_law : (x : Entry) (s' : State) (r' : List ℕ) → x ≡ new_entry j.ring s.next (write node handle offset bs)
+          → s' ≡ with_next (with_held s (j.held.items ++ record { entry = x; phase = unflushed } ∷ [])) (s.next + 1)
+          → r' ≡ stored r j.ring.n x bs → outcome_by (says (s.next ∷ [])) s' r' ≡ outcome (write node handle offset bs) r s
+      write_done_law x s' r' ex et er =
           sym (judge_passes (write node handle offset bs) (judges_write node handle offset bs) r s j k ∙ rw (same ∙ goes, et, er, ex))

@@ -1,19 +1,12 @@
 -- What an answer says on paper: the refusal's number, or the values. Document 01, "When the box says no".
-use Rattle.std.specs.Prelude.{ℕ, [], ◌∷◌, Option, None, Some, Result, Ok, Err}
+use Rattle.std.specs.Prelude.{ℕ, [], ◌∷◌, Result}
 use Rattle.reason.specs.declared.Reason.{Reason}
-use Rattle.rules.specs.Outcome.{Said, says, refuses}
+use Rattle.rules.specs.Outcome.{Said, said_by}
 
 -- write, pin, take a ticket, reopen: a number
 abbrev pub said_number : Result ℕ Reason → Said
-said_number (Ok n) = says (n ∷ [])
-said_number (Err why) = refuses why
+said_number = said_by (λ n. n ∷ [])
 
 -- make, unpin, report: nothing but done
 abbrev pub said_done : Result (Unit {0}) Reason → Said
-said_done (Ok done) = says []
-said_done (Err why) = refuses why
-
--- a call's own refusals, in code
-abbrev pub may_of : Option Reason → Result (Unit {0}) Reason
-may_of None = Ok tt
-may_of (Some why) = Err why
+said_done = said_by (λ done. [])

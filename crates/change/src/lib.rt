@@ -13,9 +13,9 @@ ghost use Rattle.state.specs.Lists.{all, phase_fits, entry_of, unflushed, with_n
 ghost use Rattle.state.specs.Pins.{staying, slots_left};
 ghost use Rattle.rules.specs.Refusals.{own};
 ghost use Rattle.rules.specs.Call.{write, unpin, report};
-ghost use Rattle.rules.specs.Outcome.{outcome, outcome_by};
+ghost use Rattle.rules.specs.Outcome.{outcome, outcome_by, may_of};
 ghost use Rattle.rules.specs.Known.{Known};
-ghost use Rattle.change.specs.Answers.{said_number, said_done, may_of};
+ghost use Rattle.change.specs.Answers.{said_number, said_done};
 
 use arrayvec::ArrayVec;
 use judge::Judged;
@@ -88,6 +88,7 @@ pub fn report_known(
 }
 
 // A write's own refusals, in the order.
+#[tactic(auto, using(crate::proofs::Writing::may_node, crate::proofs::Writing::may_empty, crate::proofs::Writing::may_long, crate::proofs::Writing::may_end, crate::proofs::Writing::may_number, crate::proofs::Writing::may_room, crate::proofs::Writing::may_go))]
 fn may_write(s: &State, ring: Ring, node: u32, offset: u32, src: &[u8]) -> Result<(), Reason>
     requires { ring.used < ring.n }
     ensures { result ≡ may_of (own (write node 0 offset src.now) [] (readable ring []) s.now) }

@@ -13,11 +13,11 @@ use Rattle.judge.specs.declared.Judged.{Judged}
 use Rattle.rules.specs.Call.{fill_read}
 use Rattle.rules.specs.Fill.{writes_for, fill_count, filled}
 use Rattle.rules.specs.Refusals.{own}
-use Rattle.rules.specs.Outcome.{lent_by, says, refuses, outcome}
+use Rattle.rules.specs.Outcome.{lent_by, says, refuses, may_of, outcome}
 use Rattle.rules.specs.Known.{Known}
 use Rattle.rules.proofs.Judging.{Judges, judge_passes}
-use Rattle.fill.specs.Answers.{may_of}
-use Rattle.fill.proofs.Refusing.{may_none, may_some, own_same, fillable}
+use Rattle.rules.proofs.Saying.{may_none, may_some}
+use Rattle.fill.proofs.Refusing.{own_same, fillable}
 
 pub judges_fill : (pin node offset fetched : ℕ) (b : List ℕ) → Judges (fill_read pin node offset fetched b)
 judges_fill pin node offset fetched b = record { reads = refl; fits = refl }

@@ -1,5 +1,5 @@
 -- A fill's own refusals, one row at a time, and what a fill that isn't refused keeps. Document 01, "When the box says no".
-use Rattle.std.specs.Prelude.{Option, None, Some, Result, Ok, Err}
+use Rattle.std.specs.Prelude.{None, Result, Ok, Err}
 use Prim.Native.Nat.{ℕ, ◌+◌, ◌≤◌, ◌<◌}
 use mathlib.Core.Path.{◌≡◌, refl, sym, ap, ◌∙◌}
 use mathlib.Core.Bool.{Bool, true, false, not}
@@ -20,19 +20,7 @@ use Rattle.rules.specs.Call.{fill_read}
 use Rattle.rules.specs.Fill.{longest_fill}
 use Rattle.rules.specs.Refusals.{own}
 use Rattle.rules.proofs.Owning.{or, own_fill, pick_false}
-use Rattle.fill.specs.Answers.{may_of}
-
--- a verdict tells the row
-pub may_none : (x : Option Reason) (t : Unit) → Ok t ≡ may_of x → x ≡ None
-may_none None t e = refl
-may_none (Some why) t e = never (cc)
-
-same_may : (a b : Reason) → ◌≡◌ {A = Result Unit Reason} (Err a) (Err b) → a ≡ b
-same_may a b e = cc
-
-pub may_some : (x : Option Reason) (why : Reason) → Err why ≡ may_of x → x ≡ Some why
-may_some None why e = never (cc)
-may_some (Some w) why e = ap Some (same_may w why (sym e))
+use Rattle.rules.specs.Outcome.{may_of}
 
 -- rows that aren't given
 rows_none : (x y v w : Bool) → or x NodeZero (or y PastFileEnd (or v NoSuchPin (or w BadBuffer None))) ≡ None → (y ≡ false) × (w ≡ false)

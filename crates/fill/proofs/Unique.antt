@@ -1,22 +1,19 @@
 -- No two different outcomes meet a fill's promise. Document 01, "How firmly each answer is tied down".
 use Prim.Native.Nat.{ℕ}
-use Rattle.std.specs.Prelude.{Result, Ok, Err}
+use Rattle.std.specs.Prelude.{Result}
 use mathlib.Core.Path.{◌≡◌, sym, ◌∙◌, ap}
 use mathlib.Core.List.{List, [], ◌∷◌}
 use Rattle.reason.specs.declared.Reason.{Reason}
 use Rattle.state.specs.declared.State.{State}
 use Rattle.rules.specs.Call.{fill_read}
 use Rattle.rules.specs.Outcome.{lent_by, outcome}
-use Rattle.rules.proofs.Saying.{refuses_one, apart, same_value}
+use Rattle.rules.proofs.Saying.{said_one, same_value}
 use Rattle.fill.specs.Answers.{said_fill}
 
 -- ---- what an answer says tells the answer
 
 fill_one : (a b : Result ℕ Reason) → said_fill a ≡ said_fill b → a ≡ b
-fill_one (Ok m) (Ok n) e = ap Ok (same_value m n e)
-fill_one (Ok m) (Err w) e = apart (m ∷ []) w e
-fill_one (Err v) (Ok n) e = apart (n ∷ []) v (sym e)
-fill_one (Err v) (Err w) e = ap Err (refuses_one v w e)
+fill_one = said_one (λ r. r ∷ []) same_value
 
 -- ---- the promise, of a fill of a buffer b on a ring r and a state s
 

@@ -13,8 +13,8 @@ ghost use Rattle.rules.specs.Call.{fill_read};
 ghost use Rattle.rules.specs.Fill.{writes_by, fill_count, filled};
 ghost use Rattle.rules.specs.Refusals.{own};
 ghost use Rattle.rules.specs.Known.{Known};
-ghost use Rattle.rules.specs.Outcome.{outcome, lent_by};
-ghost use Rattle.fill.specs.Answers.{said_fill, may_of};
+ghost use Rattle.rules.specs.Outcome.{outcome, lent_by, may_of};
+ghost use Rattle.fill.specs.Answers.{said_fill};
 ghost use Rattle.fill.specs.Overlay.{is_named, is_over, is_near, overlaid};
 
 use judge::Judged;

@@ -1,30 +1,28 @@
 -- No two different outcomes meet the promise of a flush start. Document 01, "How firmly each answer is tied down".
-use Rattle.std.specs.Prelude.{Option, None, Some, Result, Ok, Err}
+use Rattle.std.specs.Prelude.{Option, None, Some, Result}
 use Prim.Native.Nat.{ℕ}
 use mathlib.Core.Path.{◌≡◌, refl, sym, ◌∙◌, ap}
 use mathlib.Core.List.{List, [], ◌∷◌}
 use Rattle.state.specs.declared.State.{State}
 use Rattle.rules.specs.Call.{Call}
 use Rattle.rules.specs.Outcome.{lent_by, outcome}
-use Rattle.rules.proofs.Saying.{refuses_one, apart, same_pair, some_none}
+use Rattle.rules.proofs.Saying.{said_one, same_pair, some_none}
 use Rattle.flush.specs.declared.Started.{Started}
 use Rattle.reason.specs.declared.Reason.{Reason}
-use Rattle.flush.specs.Answers.{said_start}
+use Rattle.flush.specs.Answers.{values_of, said_start}
 
 begun_one : (a b : Started) → (a.number ≡ b.number) × (a.length ≡ b.length) → a ≡ b
 begun_one a b e = rw (← e.0, ← e.1) refl
 
+values_one : (a b : Option Started) → values_of a ≡ values_of b → a ≡ b
+values_one (Some a) (Some b) e = ap Some (begun_one a b (same_pair a.number b.number a.length b.length e))
+values_one (Some a) None e = some_none a.number (a.length ∷ []) e
+values_one None (Some b) e = some_none b.number (b.length ∷ []) (sym e)
+values_one None None e = refl
+
 -- what an answer says tells the answer
 start_one : (a b : Result (Option Started) Reason) → said_start a ≡ said_start b → a ≡ b
-start_one (Ok (Some a)) (Ok (Some b)) e = ap (λ x. Ok (Some x)) (begun_one a b (same_pair a.number b.number a.length b.length e))
-start_one (Ok (Some a)) (Ok None) e = some_none a.number (a.length ∷ []) e
-start_one (Ok (Some a)) (Err w) e = apart (a.number ∷ a.length ∷ []) w e
-start_one (Ok None) (Ok (Some b)) e = some_none b.number (b.length ∷ []) (sym e)
-start_one (Ok None) (Ok None) e = refl
-start_one (Ok None) (Err w) e = apart [] w e
-start_one (Err v) (Ok (Some b)) e = apart (b.number ∷ b.length ∷ []) v (sym e)
-start_one (Err v) (Ok None) e = apart [] v (sym e)
-start_one (Err v) (Err w) e = ap Err (refuses_one v w e)
+start_one = said_one values_of values_one
 
 -- the answer, the state and every byte of ring and buffer
 module _ (c : Call) (r : List ℕ) (s : State) where

@@ -107,6 +107,7 @@ fn start_known(
 
 // Starts a flush of a node: writes the sheet of its oldest Unflushed writes to the buffer's front, for the host to send.
 // Nothing to flush is an answer, and no refusal.
+#[tactic(auto, using(rules::proofs::Judging::known, rules::proofs::Judging::judge_refuses, crate::proofs::Starting::judges_start))]
 pub fn start(
     bytes: &[u8],
     s: &mut State,

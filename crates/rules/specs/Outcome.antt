@@ -1,5 +1,5 @@
 -- What every call does: what it says, the state and every byte of the ring, for all input. Document 01, "The ring in battery memory" and "Moves".
-use Rattle.std.specs.Prelude.{ℕ, ◌+◌, Bool, true, false, List, [], ◌∷◌, ◌++◌, map, length, set, Option, None, Some}
+use Rattle.std.specs.Prelude.{ℕ, ◌+◌, Bool, true, false, List, [], ◌∷◌, ◌++◌, map, length, set, Option, None, Some, Result, Ok, Err}
 use Rattle.reason.specs.declared.Reason.{Reason}
 use Rattle.reason.specs.Reason.{number_of}
 use Rattle.layout.specs.declared.Ring.{Ring}
@@ -45,6 +45,16 @@ says values = record { refusal = 0; values = values }
 
 abbrev pub refuses : Reason → Said
 refuses why = record { refusal = number_of why; values = [] }
+
+-- an answer in code, whose values are those that f gives
+abbrev pub said_by : {T : Type 0} → (T → List ℕ) → Result T Reason → Said
+said_by f (Ok x) = says (f x)
+said_by f (Err why) = refuses why
+
+-- in code, of a call that gives nothing but leave: none, or the refusal
+abbrev pub may_of : Option Reason → Result (Unit {0}) Reason
+may_of None = Ok tt
+may_of (Some why) = Err why
 
 -- ---- each call that isn't refused, on the ring g with its held writes hs
 

@@ -1,4 +1,5 @@
 -- `change::report_known` meets its contract: the laws of `Changing`.
+-- Named on the function they close no goal: a tactic takes the fact `Known` apart, and doesn't see that a law wants it whole.
 use mathlib.Core.Path.{◌≡◌, ap, ◌∙◌}
 use mathlib.Core.List.{map}
 use Rattle.state.specs.Moves.{good, bad, reported}

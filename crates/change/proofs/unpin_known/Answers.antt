@@ -1,4 +1,5 @@
 -- `change::unpin_known` meets its contract: the laws of `Changing`.
+-- Named on the function they close no goal: a tactic takes the fact `Known` apart, and doesn't see that a law wants it whole.
 use mathlib.Core.Path.{◌≡◌}
 use native.Mathlib.Omega.{arith}
 use Rattle.state.specs.Lists.{no_pin}

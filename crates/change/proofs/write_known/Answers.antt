@@ -1,6 +1,7 @@
 -- `change::write_known` meets its contract: the laws of `Changing`.
+-- Named on the function they close no goal: a tactic takes the fact `Known` apart, and doesn't see that a law wants it whole.
 use Prim.Native.Nat.{◌<◌, ◌+◌, ◌%◌}
-use mathlib.Core.Path.{refl, sym}
+use mathlib.Core.Path.{refl}
 use native.Mathlib.Nat.{mod-lt}
 use native.Mathlib.Omega.{arith}
 use lib.ListN.{length}
@@ -16,11 +17,11 @@ may_write-requires c = (sure c.args.bytes.now c.args.s.now _ c.requires).free
 pub returns-in_err-may_write : goal.returns-in_err-may_write
 returns-in_err-may_write c = let a = c.args in
     let p = err_from_is_err_and c.from_residual.result c.from_residual.ensures.1 in
-    rw (p.1, p.2) (write_refused a.bytes.now a.s.now _ c.requires a.node a.handle a.offset a.src.now _ refl _ (sym c.in_err-may_write.ensures))
+    rw (p.1, p.2) (write_refused a.bytes.now a.s.now _ c.requires a.node a.handle a.offset a.src.now _ c.in_err-may_write.ensures)
 
 pub overflow_cast-entry : goal.overflow_cast-entry
 overflow_cast-entry c = let a = c.args in
-    let w = writable a.bytes.now a.s.now _ c.requires a.node a.handle a.offset a.src.now _ refl (sym c.in_ok-may_write.ensures) in
+    let w = writable a.bytes.now a.s.now _ c.requires a.node a.handle a.offset a.src.now _ c.in_ok-may_write.ensures in
     let m = w.most in
     omega arith
 
@@ -51,7 +52,7 @@ pub store-requires : goal.store-requires
 store-requires c = let a = c.args in
     let g = a.judged.ring in
     let k = sure a.bytes.now a.s.now _ c.requires in
-    let w = writable a.bytes.now a.s.now _ c.requires a.node a.handle a.offset a.src.now _ refl (sym c.in_ok-may_write.ensures) in
+    let w = writable a.bytes.now a.s.now _ c.requires a.node a.handle a.offset a.src.now _ c.in_ok-may_write.ensures in
     let h = k.head in
     let m : (g.head + g.used) % g.n < g.n = mod-lt (g.head + g.used) (omega arith) in
     record { sized = k.sized; slot_lt_n = (m, refl, w.most) }
@@ -59,7 +60,7 @@ store-requires c = let a = c.args in
 pub add_write-requires : goal.add_write-requires
 add_write-requires c = let a = c.args in
     let k = sure a.bytes.now a.s.now _ c.requires in
-    let w = writable a.bytes.now a.s.now _ c.requires a.node a.handle a.offset a.src.now _ refl (sym c.in_ok-may_write.ensures) in
+    let w = writable a.bytes.now a.s.now _ c.requires a.node a.handle a.offset a.src.now _ c.in_ok-may_write.ensures in
     let m = k.most in
     let z = k.sized.high in
     let n = k.next in
@@ -70,4 +71,4 @@ add_write-requires c = let a = c.args in
 
 pub returns : goal.returns
 returns c = let a = c.args in
-    write_done_law a.bytes.now a.s.now _ c.requires a.node a.handle a.offset a.src.now _ refl (sym c.in_ok-may_write.ensures) _ _ _ refl c.add_write.ensures c.store.ensures
+    write_done_law a.bytes.now a.s.now _ c.requires a.node a.handle a.offset a.src.now _ c.in_ok-may_write.ensures _ _ _ refl c.add_write.ensures c.store.ensures
