@@ -1,12 +1,10 @@
 -- What each return of make and reopen comes to: a ring that is made reopens as empty.
 use Rattle.std.specs.Prelude.{Result, Ok, Err}
-use borrow.Author.Rules.{rules}
-use Rattle.std.proofs.lemmas.Grind.{common_steps}
 use Prim.Native.Nat.{ℕ, ◌≤◌}
 use mathlib.Core.Path.{◌≡◌, refl, sym, ◌∙◌, ap}
 use mathlib.Core.Bool.{Bool, true, false}
 use mathlib.Core.List.{List, [], ◌∷◌}
-use lib.ListN.{length, take}
+use lib.ListN.{length}
 use Rattle.reason.specs.declared.Reason.{Reason}
 use Rattle.reason.specs.declared.Reason.TheVariants.{Unreadable, BadBuffer}
 use Rattle.layout.specs.Bytes.{both}

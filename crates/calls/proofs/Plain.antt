@@ -5,9 +5,9 @@ use mathlib.Core.Path.{◌≡◌, refl, sym, ◌∙◌}
 use mathlib.Core.Bool.{Bool, true}
 use mathlib.Core.List.{List, [], ◌∷◌}
 use borrow.Author.Tests.{eq-eqb, ne_eqb}
-use lib.ListN.{length, take, set}
+use lib.ListN.{length, set}
 use Rattle.reason.specs.declared.Reason.TheVariants.{NodeZero, NoNumber, TooManyPins}
-use Rattle.layout.specs.Sizes.{most_entries, number_limit}
+use Rattle.layout.specs.Sizes.{number_limit}
 use Rattle.walk.specs.Walk.{readable, reading_of}
 use Rattle.state.specs.declared.State.{State}
 use Rattle.state.specs.declared.Held.{Held}
@@ -42,9 +42,6 @@ judges_pin node = record { reads = refl; fits = refl }
 module _ (r : List ℕ) (s : State) (j : Judged) (o : Ok j ≡ judged_of (reading_of r) s) where
   k : Known r s j
   k = known r s j o
-
-  pub few : j.count ≤ most_entries
-  few = (sure r s j k).few
 
   pub next_limit : s.next ≤ number_limit
   next_limit = (sure r s j k).next

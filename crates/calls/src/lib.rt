@@ -28,7 +28,7 @@ pub fn take_ticket(bytes: &[u8], s: &mut State) -> Result<u64, Reason>
 }
 
 // Whether every write in reach that was accepted before a ticket has been flushed, or has left.
-#[tactic(auto, using(rules::proofs::Judging::judge_refuses, crate::proofs::Plain::judges_ask, crate::proofs::Plain::ask_done, crate::proofs::Plain::few, crate::proofs::Plain::phases))]
+#[tactic(auto, using(rules::proofs::Judging::judge_refuses, crate::proofs::Plain::judges_ask, crate::proofs::Plain::ask_done, crate::proofs::Plain::phases))]
 pub fn ask_ticket(bytes: &[u8], s: &State, ticket: u64, node: u32) -> Result<bool, Reason>
     ensures { outcome_by (said_ticket result) s.now bytes.now ≡ outcome (ask_ticket ticket node) bytes.now s.now }
 {
@@ -37,7 +37,7 @@ pub fn ask_ticket(bytes: &[u8], s: &State, ticket: u64, node: u32) -> Result<boo
 }
 
 // The node of the lowest-numbered Unflushed write, or 0.
-#[tactic(auto, using(rules::proofs::Judging::judge_refuses, crate::proofs::Plain::judges_turn, crate::proofs::Plain::turn_done, crate::proofs::Plain::few, crate::proofs::Plain::limit))]
+#[tactic(auto, using(rules::proofs::Judging::judge_refuses, crate::proofs::Plain::judges_turn, crate::proofs::Plain::turn_done, crate::proofs::Plain::limit))]
 pub fn whose_turn(bytes: &[u8], s: &State) -> Result<u32, Reason>
     ensures { outcome_by (said_turn result) s.now bytes.now ≡ outcome ask_turn bytes.now s.now }
 {
@@ -46,7 +46,7 @@ pub fn whose_turn(bytes: &[u8], s: &State) -> Result<u32, Reason>
 }
 
 // The end that a node's file has at least, once its writes are laid on.
-#[tactic(auto, using(rules::proofs::Judging::judge_refuses, crate::proofs::Plain::judges_end, crate::proofs::Plain::end_zero, crate::proofs::Plain::end_done, crate::proofs::Plain::few))]
+#[tactic(auto, using(rules::proofs::Judging::judge_refuses, crate::proofs::Plain::judges_end, crate::proofs::Plain::end_zero, crate::proofs::Plain::end_done))]
 pub fn cached_end(bytes: &[u8], s: &State, node: u32) -> Result<u64, Reason>
     ensures { outcome_by (said_end result) s.now bytes.now ≡ outcome (ask_end node) bytes.now s.now }
 {
@@ -58,7 +58,7 @@ pub fn cached_end(bytes: &[u8], s: &State, node: u32) -> Result<u64, Reason>
 }
 
 // Pins a node, or all: what is in reach stays in the ring until unpinned, from the mark on.
-#[tactic(auto, using(rules::proofs::Judging::judge_refuses, crate::proofs::Plain::judges_pin, crate::proofs::Plain::pin_full, crate::proofs::Plain::pin_number, crate::proofs::Plain::pin_done_law, crate::proofs::Plain::few, crate::proofs::Plain::below, crate::proofs::Plain::phases, crate::proofs::Plain::next_limit))]
+#[tactic(auto, using(rules::proofs::Judging::judge_refuses, crate::proofs::Plain::judges_pin, crate::proofs::Plain::pin_full, crate::proofs::Plain::pin_number, crate::proofs::Plain::pin_done_law, crate::proofs::Plain::below, crate::proofs::Plain::phases, crate::proofs::Plain::next_limit))]
 pub fn pin(bytes: &[u8], s: &mut State, node: u32) -> Result<u64, Reason>
     ensures { outcome_by (said_number result) s.new bytes.now ≡ outcome (pin node) bytes.now s.old }
 {
