@@ -3,7 +3,7 @@ use Rattle.std.specs.Prelude.{None, Result, Ok, Err}
 use Prim.Native.Nat.{ℕ, ◌+◌, ◌≤◌}
 use mathlib.Core.Path.{◌≡◌, refl, sym, ap, ◌∙◌}
 use mathlib.Core.List.{List, [], ◌∷◌}
-use lib.ListN.{length, take}
+use lib.ListN.{length}
 use Rattle.reason.specs.declared.Reason.{Reason}
 use Rattle.layout.specs.Sizes.{file_end}
 use Rattle.walk.specs.Walk.{readable, unreadable}

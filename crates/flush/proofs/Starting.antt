@@ -1,12 +1,13 @@
 -- From the code's tests, batch and sheet to the outcome of a flush start.
 use Rattle.std.specs.Prelude.{Option, None, Some}
 use Prim.Native.Nat.{ℕ, ◌+◌, ◌≤◌, ◌<◌}
+use Rattle.std.specs.List.{refill}
 use mathlib.Core.Path.{◌≡◌, refl, sym, ap, ◌∙◌}
 use mathlib.Core.Bool.{Bool, true, false}
-use mathlib.Core.List.{List, [], ◌∷◌, ◌++◌, map}
+use mathlib.Core.List.{List, [], ◌∷◌, map}
 use native.Mathlib.Omega.{arith}
 use borrow.Author.Tests.{eq-eqb, ne_eqb, lt-ltb, le-ltb}
-use lib.ListN.{length, take, get_or, length-map, length-take}
+use lib.ListN.{length, get_or, length-map, length-take}
 use lib.Seq.{take_at}
 use lib.Dec.{eqb, ltb}
 use Rattle.reason.specs.declared.Reason.TheVariants.{NodeZero, NoNumber, FlushUnderWay, BadBuffer}
@@ -68,18 +69,17 @@ module _ (r : List ℕ) (s : State) (j : Judged) (k : Known r s j) (node : ℕ) 
           inside = λ i h. (one i h).slot;
         }
 
-  taken_long : length (taken_of node hs) ≡ j.count
-  taken_long =
-      sym (length-map (taken_of node hs) entry_of) ∙ ap length (taken_entries node most_batch hs) ∙ length-map hs entry_of ∙ (sure r s j k).long
+  -- the held writes with the batch taken
+  module _ (hs' : List Held) (e : hs' ≡ taken_of node hs) where
+    taken_long : length hs' ≡ length hs
+    taken_long = ap length e ∙ sym (length-map (taken_of node hs) entry_of) ∙ ap length (taken_entries node most_batch hs) ∙ length-map hs entry_of
 
-  pub taken_as_many : (hs' : List Held) → hs' ≡ taken_of node hs → length hs' ≡ j.count
-  taken_as_many hs' e = ap length e ∙ taken_long
+    pub taken_few : length hs' ≤ most_entries
+    taken_few = let l = taken_long in let f = (sure r s j k).few in omega arith
 
-  pub taken_front : (hs' : List Held) → hs' ≡ taken_of node hs → (ks : List Held) → take j.count (hs' ++ ks) ≡ hs'
-  taken_front hs' e ks = take_at hs' ks j.count (taken_as_many hs' e)
-
-  pub taken_few : (hs' : List Held) → hs' ≡ taken_of node hs → length hs' ≤ most_entries
-  taken_few hs' e = let l = taken_long in let f = (sure r s j k).few in let n : length hs' ≡ j.count = ap length e ∙ l in omega arith
+    -- the places that they are written back to are as many
+    pub taken_back : refill (length hs) hs hs' ≡ hs'
+    taken_back = take_at hs' _ (length hs) taken_long
 
   -- ---- the outcome, test by test
 

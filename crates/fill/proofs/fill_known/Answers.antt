@@ -18,15 +18,12 @@ pub count_of-r-requires : goal.count_of-r-requires
 count_of-r-requires c = let a = c.args in
     (fits a.bytes.now a.s.now _ c.requires a.pin a.node a.offset a.fetched a.buffer.now _ c.in_ok-may_fill.ensures).1
 
-pub held-held-requires : goal.held-held-requires
-held-held-requires c = (sure c.args.bytes.now c.args.s.now _ c.requires).few
-
 pub invariant_of-slots : goal.invariant_of-slots
 invariant_of-slots c = record { sized = (sure c.args.bytes.now c.args.s.now _ c.requires).sized }
 
 pub invariant_of-layer : goal.invariant_of-layer
 invariant_of-layer c = let k = sure c.args.bytes.now c.args.s.now _ c.requires in
-    let n = ap length c.held-held.ensures in
+    let n = ap length c.as_slice-held.ensures.value in
     omega (arith, n, k.long, k.few)
 
 pub fill_bytes-requires : goal.fill_bytes-requires
@@ -38,5 +35,5 @@ fill_bytes-requires c = let a = c.args in
 
 pub returns : goal.returns
 returns c = let a = c.args in
-    fill_done_law a.bytes.now a.s.now _ c.requires a.pin a.node a.offset a.fetched a.buffer.now _ c.in_ok-may_fill.ensures _ _ _ (c.end_of-end.ensures ∙ ap (cached_end a.node) c.held-held.ensures) c.count_of-r.ensures.0
-    (c.fill_bytes.ensures ∙ ap (λ hs. filled (writes_for a.node a.bytes.now a.judged.now.ring hs) a.offset a.fetched c.count_of-r.result a.buffer.now) c.held-held.ensures)
+    fill_done_law a.bytes.now a.s.now _ c.requires a.pin a.node a.offset a.fetched a.buffer.now _ c.in_ok-may_fill.ensures _ _ _ (c.end_of-end.ensures ∙ ap (cached_end a.node) c.as_slice-held.ensures.value) c.count_of-r.ensures.0
+    (c.fill_bytes.ensures ∙ ap (λ hs. filled (writes_for a.node a.bytes.now a.judged.now.ring hs) a.offset a.fetched c.count_of-r.result a.buffer.now) c.as_slice-held.ensures.value)
