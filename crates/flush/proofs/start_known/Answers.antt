@@ -1,4 +1,5 @@
 -- `flush::start_known` meets its contract: the laws of `Starting`, one for each way out.
+-- Named on the function they close no goal: a tactic takes the fact `Known` apart, and doesn't see that a law wants it whole.
 use mathlib.Core.Path.{◌≡◌, ap, ◌∙◌}
 use mathlib.Core.List.{map}
 use borrow.Author.Rules.{rules}
