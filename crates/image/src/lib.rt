@@ -23,7 +23,7 @@ pub fn head_bytes(entry: Entry) -> [u8; Ring::HEAD]
     head
 }
 
-// An entry's first slot: its head and the first of its bytes.
+// An entry's first slot: its head and the first of its bytes. Entry and bytes come apart: the ring keeps the one, and a caller lends the other for a call.
 pub fn first_image(entry: Entry, src: &[u8]) -> [u8; Ring::SLOT]
     requires { entry.length ≡ length src.now }
     ensures { result ≡ slot_bytes entry src.now 0 }

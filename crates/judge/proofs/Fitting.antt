@@ -189,47 +189,6 @@ no_clash true false false d = refl
 no_clash false b c true = refl
 no_clash false b c false = refl
 
--- what the code's three answers come to
-after_flushed : (a b : Bool) → a ≡ both (not (both (not a) true)) (not (both b false))
-unfolding both
-after_flushed true true = refl
-after_flushed true false = refl
-after_flushed false b = refl
-
-after_flight : (a b : Bool) → not b ≡ both (not (both (not a) false)) (not (both b true))
-unfolding both
-after_flight true true = refl
-after_flight true false = refl
-after_flight false true = refl
-after_flight false false = refl
-
-module _ (p q : ℕ) where
-  pub phases_flushed : q ≡ flushed → eqb p flushed ≡ phases_fit p q
-  unfolding phases_fit
-  phases_flushed e = rw e (after_flushed (eqb p flushed) (eqb p unflushed))
-
-  pub phases_flight : q ≡ in_flight → not (eqb p unflushed) ≡ phases_fit p q
-  unfolding phases_fit
-  phases_flight e = rw e (after_flight (eqb p flushed) (eqb p unflushed))
-
-  pub phases_else : (q ≡ flushed → ⊥) → (q ≡ in_flight → ⊥) → true ≡ phases_fit p q
-  unfolding phases_fit
-  phases_else k l = rw (ne_eqb q flushed k, ne_eqb q in_flight l) (sym (no_clash true (not (eqb p flushed)) (eqb p unflushed) true))
-
-module _ (h k : Held) where
-  pub pair_one : h.entry.node ≡ k.entry.node → phases_fit h.phase k.phase ≡ pair_fits h k
-  unfolding pair_fits
-  pair_one e = rw (eq-eqb h.entry.node k.entry.node e)
-
-  module _ (e : h.entry.node ≡ k.entry.node → ⊥) where
-    pub pair_out : (h.phase ≡ in_flight → ⊥) → true ≡ pair_fits h k
-    unfolding pair_fits nodes_fit both
-    pair_out l = rw (ne_eqb h.entry.node k.entry.node e, ne_eqb h.phase in_flight l)
-
-    pub pair_two : h.phase ≡ in_flight → not (eqb k.phase in_flight) ≡ pair_fits h k
-    unfolding pair_fits nodes_fit both
-    pair_two l = rw (ne_eqb h.entry.node k.entry.node e, eq-eqb h.phase in_flight l)
-
 -- an Unflushed write may follow any
 pub follows : (h k : Held) → k.phase ≡ unflushed → pair_fits h k ≡ true
 unfolding pair_fits phases_fit nodes_fit

@@ -1,17 +1,12 @@
 -- The loops of this crate, each as a named invariant with what begins it, carries it on and ends it.
 use Prim.Native.Nat.{ℕ, suc, ◌+◌, ◌-◌, ◌≤◌, ◌<◌}
-use mathlib.Core.Path.{◌≡◌, refl, sym, ap, ◌∙◌}
-use mathlib.Core.List.{List, [], ◌∷◌, ◌++◌, append_assoc, append-nil}
+use mathlib.Core.Path.{◌≡◌, refl, ap, ◌∙◌}
 use mathlib.Core.Bool.{Bool, true, false}
 use native.Mathlib.Omega.{arith}
 use native.Mathlib.Nat.{add-zero, sub-zero}
-use native.Mathlib.Numerals.{add-one}
-use lib.ListN.{length, get_or, set, drop, length-set, drop_of_length-le}
-use lib.Seq.{drop-cons, set_at}
 use lib.Dec.{eqb}
 use borrow.Author.Tests.{eq-eqb, ne_eqb}
-use Rattle.layout.specs.Bytes.{both, zeros_at, bytes_at}
-use Rattle.layout.proofs.Views.{bytes_length, bytes_snoc}
+use Rattle.layout.specs.Bytes.{both, zeros_at}
 
 -- ---- a test of zeros: what was found of the bytes passed, and what is left
 
@@ -44,32 +39,3 @@ module _ (f : ℕ → ℕ) (p c : ℕ) where
         neither : (b : Bool) → both b false ≡ false
         neither true = refl
         neither false = refl
-
--- ---- taking: the front is copied, the rest is as it was
-
-pub record Taking (f : ℕ → ℕ) (p : ℕ) (out₀ out : List ℕ) (i : ℕ) : Type 0 where
-  pub upto : i ≤ length out₀
-  pub same : length out ≡ length out₀
-  pub front : out ≡ bytes_at f p i ++ drop i out₀
-
-module _ (f : ℕ → ℕ) (p : ℕ) (out₀ : List ℕ) where
-  pub take_start : Taking f p out₀ out₀ 0
-  unfolding bytes_at
-  take_start = record { upto = omega arith; same = refl; front = refl }
-
-  module _ (out : List ℕ) (i : ℕ) (o : Taking f p out₀ out i) where
-    pub take_next : (b : ℕ) → i < length out₀ → b ≡ f (p + i) → Taking f p out₀ (set out i b) (i + 1)
-    take_next b l e =
-        record {
-          upto = omega arith;
-          same = length-set out i b ∙ o.same;
-          front =
-              rw (o.front, drop-cons out₀ i 0, e, add-one i, bytes_snoc f p i)
-              (set_at (bytes_at f p i) (get_or out₀ i 0) (drop (suc i) out₀) (f (p + i)) i (bytes_length f p i)
-              ∙ sym (append_assoc (bytes_at f p i) (f (p + i) ∷ []) (drop (suc i) out₀)));
-        }
-
-    pub take_done : length out₀ ≤ i → out ≡ bytes_at f p (length out₀)
-    take_done l =
-        let e : i ≡ length out₀ = omega (arith, o.upto) in
-        o.front ∙ rw (drop_of_length-le out₀ l, e) (append-nil (bytes_at f p (length out₀)))

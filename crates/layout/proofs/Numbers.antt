@@ -1,9 +1,8 @@
 -- Numbers in bytes: what the library reads from them and makes of them, and that a number stored as bytes is read back.
 use Prim.Native.Nat.{ℕ, suc, ◌+◌, ◌/◌, ◌%◌, ◌<◌}
-use mathlib.Core.Path.{◌≡◌, refl, ◌∙◌}
+use mathlib.Core.Path.{◌≡◌, ◌∙◌}
 use mathlib.Core.List.{List, [], ◌∷◌}
 use native.Mathlib.Omega.{arith}
-use lib.ListN.{take}
 use Rattle.std.specs.Int.{w16, w32, w64, from_le_bytes, to_le_bytes}
 use Rattle.layout.specs.Bytes.{number2, number4, number8, bytes_at, bytes2, bytes4, bytes8}
 
@@ -47,10 +46,6 @@ module _ (f : ℕ → ℕ) (p : ℕ) where
   le8 bs x e b = e ∙ rw (b, eight_at) (omega arith)
 
 -- ---- `to_le_bytes` of a number is the number as bytes
-
-pub le_bytes2 : (x : ℕ) → take 2 (to_le_bytes w32 x) ≡ bytes2 x
-unfolding bytes2
-le_bytes2 x = refl
 
 pub le_bytes4 : (x : ℕ) → to_le_bytes w32 x ≡ bytes4 x
 unfolding bytes4 bytes2

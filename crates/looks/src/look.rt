@@ -29,6 +29,7 @@ fn say_listed(out: &mut Out, s: &State) {
     }
 }
 
+// The picture has a `say_pins` of its own (show.rt): what is said of a pin is all that there is to either.
 fn say_pins(out: &mut Out, s: &State) {
     for (place, pin) in s.pins.iter().enumerate() {
         if pin.number != 0 {

@@ -35,7 +35,7 @@ pub struct Plan {
     // The head slot before, and the one after.
     pub from: usize,
     pub head: usize,
-    // The entry that is stored; its number is 0 where none is.
+    // The entry that is stored; its number is 0 where none is, since a host in C keeps the plan.
     pub entry: Entry,
 }
 

@@ -8,47 +8,34 @@ ghost use Rattle.reason.specs.Reason.{number_of};
 #[derive(Clone, Copy)]
 pub enum Reason {
     // The node is 0.
-    NodeZero,
+    NodeZero = 1,
     // A write of no byte, or of more than the largest write.
-    BadLength,
+    BadLength = 2,
     // Offset and length go past the end that a file may have.
-    PastFileEnd,
+    PastFileEnd = 3,
     // The write needs more slots than are free.
-    NoRoom,
+    NoRoom = 4,
     // The numbers are used up.
-    NoNumber,
+    NoNumber = 5,
     // A flush is under way.
-    FlushUnderWay,
+    FlushUnderWay = 6,
     // The number is not that of the flush under way.
-    NotTheFlush,
+    NotTheFlush = 7,
     // The bytes are not a ring.
-    Unreadable,
+    Unreadable = 8,
     // There is no such live pin.
-    NoSuchPin,
+    NoSuchPin = 9,
     // There are as many pins as there may be.
-    TooManyPins,
+    TooManyPins = 10,
     // A lent buffer is too short, too long, or of no valid length.
-    BadBuffer,
+    BadBuffer = 11,
     // The state does not fit the ring.
-    StateUnfit,
+    StateUnfit = 12,
 }
 
 // The number that document 01 gives a reason.
 pub fn number_of(reason: Reason) -> u8
     ensures { result ≡ number_of reason }
 {
-    match reason {
-        Reason::NodeZero => 1,
-        Reason::BadLength => 2,
-        Reason::PastFileEnd => 3,
-        Reason::NoRoom => 4,
-        Reason::NoNumber => 5,
-        Reason::FlushUnderWay => 6,
-        Reason::NotTheFlush => 7,
-        Reason::Unreadable => 8,
-        Reason::NoSuchPin => 9,
-        Reason::TooManyPins => 10,
-        Reason::BadBuffer => 11,
-        Reason::StateUnfit => 12,
-    }
+    reason as u8
 }

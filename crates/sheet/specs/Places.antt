@@ -41,7 +41,7 @@ grow key p = gather is_short key p
 abbrev pub in_order : List Piece → List Piece
 in_order qs = reverse qs
 
--- how many bytes the pieces have
+-- how many bytes the pieces have; not `sum_by`, which folds from the left and would ask each induction a step more
 abbrev pub total : List Piece → ℕ
 total [] = 0
 total (q ∷ qs) = q.size + total qs

@@ -18,7 +18,6 @@ use Rattle.state.specs.declared.Query.{Query}
 use Rattle.state.specs.Lists.{any, all, place_of, unflushed, in_flight, gone, no_held, phase_fits, RisingTo, those}
 use Rattle.state.specs.Pins.{reaches, waits_in, lower, lowest, value_or}
 use Rattle.state.specs.Asks.{waits_for, seeks}
-use Rattle.state.proofs.Loops.{any_found, any_none}
 
 -- ---- what holds of each element
 
@@ -206,17 +205,6 @@ module _ {A : Type 0} (p : A → Bool) (d : A) where
   pub place_there : (xs : List A) → any p xs ≡ true → (place_of p xs < length xs) × (p (get_or xs (place_of p xs) d) ≡ true)
   place_there [] o = never (cc)
   place_there (x ∷ xs) o = there_by x xs (p x) refl o (place_there xs)
-
--- nothing passes exactly if the place is the length
-pub none_place : {A : Type 0} (p : A → Bool) (xs : List A) → eqb (place_of p xs) (length xs) ≡ not (any p xs)
-none_place p xs = at (lt_or_le (place_of p xs) (length xs))
-  where
-    at : (place_of p xs < length xs) ⊎ (length xs ≤ place_of p xs) → eqb (place_of p xs) (length xs) ≡ not (any p xs)
-    at (inl h) = rw (any_found p xs h, ne_eqb (place_of p xs) (length xs) (λ e. let w : ⊥ = omega arith in w))
-    at (inr h) =
-        let k = place_le p xs in
-        let e : place_of p xs ≡ length xs = omega arith in
-        rw (any_none p xs h, eq-eqb (place_of p xs) (length xs) e)
 
 -- what holds of each holds at a place
 pub each_at : {A : Type 0} (P : A → Type 0) (d : A) (xs : List A) (i : ℕ) → Each P xs → i < length xs → P (get_or xs i d)

@@ -8,5 +8,4 @@ pub mod Pairs
 pub mod PinTable
 pub mod LettingGo
 pub mod Reopening
-pub mod Lengths
 pub mod Reports

@@ -1,16 +1,11 @@
 -- Tests over lists: joined, at a place, and one element more.
-use Prim.Native.Nat.{ℕ, ◌+◌, ◌<◌}
 use mathlib.Core.Path.{◌≡◌, refl, sym, ◌∙◌, ap}
 use mathlib.Core.Bool.{Bool, true, false, not}
 use mathlib.Core.List.{List, [], ◌∷◌, ◌++◌, append_assoc}
-use native.Mathlib.Numerals.{add-one}
-use lib.ListN.{length, take, get_or}
-use lib.Seq.{take-suc}
 use Rattle.layout.specs.Bytes.{both}
 use Rattle.layout.proofs.Tests.{both_left, both_right}
 use Rattle.state.proofs.Bools.{both_intro, yes_both, no_both, both_yes, both_assoc, both_cross}
 use Rattle.state.specs.Lists.{pick, any, all, pairs}
-use Rattle.state.proofs.Finding.{each_at, each_true}
 
 module _ {A : Type 0} (p : A → Bool) where
   pub all_append : (xs ys : List A) → all p (xs ++ ys) ≡ both (all p xs) (all p ys)
@@ -30,15 +25,6 @@ module _ {A : Type 0} (p : A → Bool) where
 
   pub all_right : (xs ys : List A) → all p (xs ++ ys) ≡ true → all p ys ≡ true
   all_right xs ys e = both_right _ _ (sym (all_append xs ys) ∙ e)
-
-  pub all_at : (d : A) (xs : List A) (i : ℕ) → all p xs ≡ true → i < length xs → p (get_or xs i d) ≡ true
-  all_at d xs i e h = each_at (λ x. p x ≡ true) d xs i (each_true p xs e) h
-
-  -- one more of an array
-  pub all_more : (d : A) (l : List A) (i : ℕ) → i < length l → all p (take i l) ≡ true → p (get_or l i d) ≡ true → all p (take (i + 1) l) ≡ true
-  all_more d l i h e k =
-      let w : take (i + 1) l ≡ take i l ++ get_or l i d ∷ [] = rw add-one (take-suc l i d h) in
-      ap (all p) w ∙ all_snoc (take i l) (get_or l i d) e k
 
   -- none passes where all fail
   pub none_all : (xs : List A) → not (any p xs) ≡ all (λ x. not (p x)) xs

@@ -65,7 +65,7 @@ pub struct Listed {
     pub phase: u8,
 }
 
-// A pin; number 0 is a free record.
+// A pin; number 0 is a free record. Numbers alone, since C lays the records out.
 #[repr(C)]
 #[derive(Clone, Copy, Default)]
 pub struct Pin {
@@ -81,7 +81,7 @@ pub struct Pin {
 pub struct State {
     // The next number that a write, a pin, a flush start or a ticket takes.
     pub next: u64,
-    // The flush under way, or 0.
+    // The flush under way, or 0: C has no Option.
     pub flush: u64,
     // How many writes are listed.
     pub count: usize,
@@ -100,7 +100,7 @@ pub struct Held {
 // What a search looks for.
 #[derive(Clone, Copy)]
 pub struct Query {
-    // In reach of this node; 0 is all.
+    // In reach of this node; 0 is all, as in a pin (`reaches`).
     pub node: u32,
     pub below: u64,
     pub low: u8,

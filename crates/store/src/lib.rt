@@ -55,7 +55,7 @@ fn tail_after(n: usize, slot: usize, slots: usize) -> usize
     (slot + slots) % n
 }
 
-// Stores an entry with its bytes in its slots, and then the tail byte.
+// Stores an entry with its bytes in its slots, and then the tail byte. The bytes are lent by the caller, so they are no part of the entry.
 pub fn store(bytes: &mut [u8], n: usize, entry: Entry, src: &[u8])
     requires sized { Sized bytes.old n }
     requires slot_lt_n { (entry.slot < n) × (entry.length ≡ length src.now) × (entry.length ≤ largest) }

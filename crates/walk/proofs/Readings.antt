@@ -1,5 +1,5 @@
 -- A ring is readable as g and es exactly where its header is g and its entries are a chain from head to tail.
-use Rattle.std.specs.Prelude.{Ok, Err, Option, None, Some}
+use Rattle.std.specs.Prelude.{Err, Option, None, Some}
 use Prim.Native.Nat.{ℕ, ◌+◌, ◌-◌, ◌*◌, ◌%◌, ◌≤◌, ◌<◌}
 use mathlib.Core.Path.{◌≡◌, refl, sym, ap, ◌∙◌}
 use mathlib.Core.Logic.{⊎_elim, ◌≢◌}
@@ -16,7 +16,6 @@ use Rattle.layout.proofs.Puts.{sized_as}
 use Rattle.reason.specs.declared.Reason.{Reason}
 use Rattle.reason.specs.declared.Reason.TheVariants.{Unreadable}
 use Rattle.walk.specs.declared.Entry.{Entry}
-use Rattle.walk.specs.declared.Walked.{Walked}
 use Rattle.walk.specs.Header.{head_in, tail_in, used_of, ring_in, header_of}
 use Rattle.walk.specs.Entry.{data_of}
 use Rattle.walk.specs.Walk.{walk, start, Reading, readable, unreadable, reads, reading_by, reading_of, answer_of, slots_used, Rising, write_of}
@@ -52,10 +51,6 @@ unfolding reading_of
 reading_true {r} {g} {es} k = ap (reading_by r) (reading_header k) ∙ ap (reads g) (walk_of k.chain)
 
 -- ---- the code's answer says which
-
-pub answer_readable : (x : Reading) (w : Walked) → answer_of x ≡ Ok w → (es : List Entry) × (x ≡ readable w.ring es)
-answer_readable unreadable w q = never (cc)
-answer_readable (readable g es) w q = let e : g ≡ w.ring = (cc) in (es, ap (λ (h : Ring). readable h es) e)
 
 -- what it refuses is no ring
 pub answer_refused : (x : Reading) (why : Reason) → answer_of x ≡ Err why → (x ≡ unreadable) × (why ≡ Unreadable)

@@ -46,7 +46,7 @@ pub struct Cursor {
     pub place: usize,
     // How many slots there are until the tail.
     pub left: usize,
-    // The number of the entry before, or 0.
+    // The number of the entry before, or 0, which is below every number: so one test serves the first entry too.
     pub last: u64,
 }
 
@@ -202,7 +202,8 @@ pub fn no_entry() -> Entry
     }
 }
 
-// The walk from head: where a step yields no entry short of the tail, the answer is no at once.
+// The walk from head: where a step yields no entry short of the tail, the answer is no at once. It goes on by the slots of what it found, so nothing
+// is counted. Bytes and ring come apart here, since this is where their view is made; a view beside a ring would have to be said to be of it.
 fn collect(bytes: &[u8], ring: Ring) -> Result<Walked, Reason>
     requires sized { Sized bytes.now ring.n }
     requires head_lt_n { (ring.head < ring.n) × (ring.used < ring.n) }

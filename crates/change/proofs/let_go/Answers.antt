@@ -1,4 +1,4 @@
--- `change::let_go` meets its contract: those that leave, then those that stay (`leave_drop`).
+-- `change::let_go` meets its contract: those that leave, then those that stay (`leave_drop`). Named on the function, the laws leave five goals open.
 use Prim.Native.Nat.{◌<◌, ◌+◌, ◌-◌, ◌%◌}
 use mathlib.Core.Path.{◌≡◌, ◌∙◌, ap}
 use native.Mathlib.Nat.{mod-lt}
