@@ -116,7 +116,7 @@ fn flattened<T: Told>(answer: Result<T, Reason>) -> Answer
     match answer {
         Ok(answered) => answered.told(),
         Err(why) => Answer {
-            refusal: reason::number_of(why) as u32,
+            refusal: u32::from(reason::number_of(why)),
             value: 0,
             length: 0,
         },

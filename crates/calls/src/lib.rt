@@ -36,7 +36,8 @@ pub fn ask_ticket(bytes: &[u8], s: &State, ticket: u64, node: u32) -> Result<boo
     Ok(state::is_done(judged.held.as_slice(), ticket, node))
 }
 
-// The node of the lowest-numbered Unflushed write, or 0, which is no node: so it is said on paper and in C (`said_turn`).
+// The node of the lowest-numbered Unflushed write, or 0, as the paper and C have it. With an Option `None` and `Some(0)` would be said alike, and `turn_unique`
+// would not hold.
 #[tactic(auto, using(rules::proofs::Judging::judge_refuses, crate::proofs::Plain::judges_turn, crate::proofs::Plain::turn_done, crate::proofs::Plain::limit))]
 pub fn whose_turn(bytes: &[u8], s: &State) -> Result<u32, Reason>
     ensures { outcome_by (said_turn result) s.now bytes.now ≡ outcome ask_turn bytes.now s.now }

@@ -1,13 +1,13 @@
 -- The writes that touch a part of a node's file: the pass that chooses them, and that no other write decides a byte of the part.
 use Prim.Native.Nat.{ℕ, ◌+◌, ◌≤◌, ◌<◌}
-use mathlib.Core.Path.{◌≡◌, sym, ap, ◌∙◌}
+use mathlib.Core.Path.{◌≡◌, refl, sym, ap, ◌∙◌}
 use mathlib.Core.Bool.{Bool, true, false}
 use mathlib.Core.List.{List, [], ◌∷◌, ◌++◌, append-nil}
 use native.Mathlib.Omega.{arith}
 use native.Mathlib.Numerals.{add-one}
 use borrow.Author.Tests.{lt-ltb}
-use lib.ListN.{length, take, get_or, set, length-set}
-use lib.Seq.{take-length, take-suc, take-set-le, get_or-set_same}
+use lib.ListN.{length, take, get_or, length-append}
+use lib.Seq.{take-length, take-suc}
 use Rattle.layout.proofs.Tests.{both_left}
 use Rattle.state.specs.declared.Held.{Held}
 use Rattle.state.specs.Lists.{pick, no_held, those}
@@ -19,16 +19,18 @@ use Rattle.fill.specs.Overlay.{is_over, is_near, overlaid}
 use Rattle.fill.proofs.Seeking.{over_inside, byte_those}
 use Rattle.fill.proofs.Overlaying.{over_same}
 
--- ---- the pass: those of the first i that pass the test stand in front of an array
+-- ---- the pass: those of the first i that pass the test are chosen
 
-pub record Choosing (q : Held → Bool) (l : List Held) (out : List Held) (many i : ℕ) : Type 0 where
+pub record Choosing (q : Held → Bool) (l : List Held) (out : List Held) (i : ℕ) : Type 0 where
   pub upto : i ≤ length l
-  pub room : length l ≤ length out
-  pub few : many ≤ i
-  pub front : take many out ≡ those q (take i l)
+  pub few : length out ≤ i
+  pub chosen : out ≡ those q (take i l)
 
 module _ (q : Held → Bool) (l : List Held) where
-  module _ (out : List Held) (many i : ℕ) (k : Choosing q l out many i) where
+  pub choose_start : (out : List Held) → out ≡ [] → Choosing q l out 0
+  choose_start out e = record { upto = omega arith; few = rw e (omega arith); chosen = e }
+
+  module _ (out : List Held) (i : ℕ) (k : Choosing q l out i) where
     module _ (h : i < length l) where
       abbrev x : Held
       x = get_or l i no_held
@@ -39,43 +41,27 @@ module _ (q : Held → Bool) (l : List Held) where
           ap (those q) (ap (λ j. take j l) (add-one i) ∙ take-suc l i no_held h) ∙ those_append q (take i l) (x ∷ [])
           ∙ ap (λ t. those q (take i l) ++ pick t (x ∷ []) []) e
 
-      yes : q x ≡ true → Choosing q l (set out many x) (many + 1) (i + 1)
-      yes e =
+      pub choose_yes : (out' : List Held) → q x ≡ true → out' ≡ out ++ x ∷ [] → Choosing q l out' (i + 1)
+      choose_yes out' e a =
           let f = k.few in
-          let r = k.room in
-          let s : length (set out many x) ≡ length out = length-set out many x in
-          record {
-            upto = omega arith;
-            room = omega arith;
-            few = omega arith;
-            front =
-                ap (λ j. take j (set out many x)) (add-one many) ∙ take-suc (set out many x) many no_held (omega arith)
-                ∙ ap (λ y. take many (set out many x) ++ y ∷ []) (get_or-set_same out many x no_held (omega arith))
-                ∙ ap (λ ys. ys ++ x ∷ []) (take-set-le many out many x (omega arith) ∙ k.front) ∙ sym (more true e);
-          }
+          let n : length out' ≡ length out + 1 = ap length a ∙ length-append out (x ∷ []) in
+          record { upto = omega arith; few = omega arith; chosen = a ∙ ap (λ ys. ys ++ x ∷ []) k.chosen ∙ sym (more true e) }
 
-      no : q x ≡ false → Choosing q l out many (i + 1)
-      no e =
+      pub choose_no : (out' : List Held) → q x ≡ false → out' ≡ out → Choosing q l out' (i + 1)
+      choose_no out' e a =
           let f = k.few in
-          record {
-            upto = omega arith;
-            room = k.room;
-            few = omega arith;
-            front = k.front ∙ sym (more false e ∙ append-nil (those q (take i l)));
-          }
+          let n : length out' ≡ length out = ap length a in
+          record { upto = omega arith; few = omega arith; chosen = a ∙ k.chosen ∙ sym (more false e ∙ append-nil (those q (take i l))) }
 
-      -- the same of what the code stores
-      pub choose_yes : (out' : List Held) (many' : ℕ) → q x ≡ true → out' ≡ set out many x → many' ≡ many + 1 → Choosing q l out' many' (i + 1)
-      choose_yes out' many' e a b = rw (a, b) (yes e)
-
-      pub choose_no : (out' : List Held) (many' : ℕ) → q x ≡ false → out' ≡ out → many' ≡ many → Choosing q l out' many' (i + 1)
-      choose_no out' many' e a b = rw (a, b) (no e)
-
-    pub choose_end : length l ≤ i → take many out ≡ those q l
+    pub choose_end : length l ≤ i → out ≡ those q l
     choose_end h =
         let u = k.upto in
         let z : i ≡ length l = omega arith in
-        k.front ∙ ap (those q) (ap (λ j. take j l) z ∙ take-length l)
+        k.chosen ∙ ap (those q) (ap (λ j. take j l) z ∙ take-length l)
+
+pub no_length : (out : List Held) → length out ≡ 0 → out ≡ []
+no_length [] e = refl
+no_length (x ∷ xs) e = absurd (omega arith)
 
 -- ---- a write that is over a place of the part is among those chosen, so no other decides a byte of it
 

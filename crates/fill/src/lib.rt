@@ -17,11 +17,13 @@ ghost use Rattle.rules.specs.Outcome.{outcome, lent_by, may_of};
 ghost use Rattle.fill.specs.Answers.{said_fill};
 ghost use Rattle.fill.specs.Overlay.{is_named, is_over, is_near, overlaid};
 
+use arrayvec::ArrayVec;
 use judge::Judged;
 use layout::{Ring, Slots};
 use reason::Reason;
 use state::{Held, Pin, State};
 use std::marker::Model;
+use walk::ENTRIES;
 
 // The longest buffer of a fill.
 pub const LONGEST: usize = 65536;
@@ -148,22 +150,21 @@ impl<'a> Layer<'a> {
     }
 
     // The same as `overlay`: the writes that touch the part are chosen first, into room that is lent, and only those are searched for its bytes.
-    // Most parts have none. Without a heap the room is an array, of which `many` places are taken.
-    fn overlay_near(&self, near: &mut [Held; Ring::ENTRIES], from: usize, part: &mut [u8])
+    // Most parts have none.
+    fn overlay_near(&self, near: &mut ArrayVec<Held, ENTRIES>, from: usize, part: &mut [u8])
         requires { from + length part.old ≤ file_end }
         ensures { part.new ≡ overlaid self.now from part.old }
     {
         let end = from + part.len();
-        let mut many: usize = 0;
+        near.clear();
         for one in self.held {
             if is_near(*one, self.node, from, end) {
-                near[many] = *one;
-                many += 1;
+                near.push(*one);
             }
         }
-        if 0 < many {
+        if !near.is_empty() {
             let layer = Layer {
-                held: &near[0..many],
+                held: near.as_slice(),
                 ..*self
             };
             layer.overlay(from, part);
@@ -176,8 +177,7 @@ impl<'a> Layer<'a> {
         requires { from + length out.old ≤ file_end }
         ensures { out.new ≡ overlaid self.now from out.old }
     {
-        let entry = walk::no_entry();
-        let mut near = [Held { entry, phase: 0 }; Ring::ENTRIES];
+        let mut near = ArrayVec::new();
         let n = out.len();
         for k in (0..n).step_by(BLOCK) {
             self.overlay_near(&mut near, from + k, &mut out[k..n.min(k + BLOCK)]);

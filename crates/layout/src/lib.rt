@@ -54,7 +54,7 @@ pub fn byte_at(bytes: &[u8], p: usize) -> u32
     requires { p < length bytes.now }
     ensures { (result ≡ flat bytes.now p) × (result < 256) }
 {
-    bytes[p] as u32
+    u32::from(bytes[p])
 }
 
 // The N bytes at p. A number in them is what `from_le_bytes` of its type reads (proofs/Numbers, `le2`, `le4` and `le8`).

@@ -173,7 +173,7 @@ impl Held {
         if entry.node != node {
             return end;
         }
-        end.max(entry.offset as u64 + entry.length as u64)
+        end.max(u64::from(entry.offset) + u64::from(entry.length))
     }
 }
 
