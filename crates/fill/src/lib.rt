@@ -209,7 +209,7 @@ fn count_of(n: usize, g: usize, offset: u32, end: u64) -> usize
     requires { g ≤ n }
     ensures { (result ≡ fill_count n g offset end) × (g ≤ result) × (result ≤ n) }
 {
-    let reach = end.saturating_sub(offset as u64) as usize;
+    let reach = end.saturating_sub(u64::from(offset)) as usize;
     g.max(n.min(reach))
 }
 

@@ -38,7 +38,7 @@ static TABLE: [u32; 256] = [
 // The remainder with one byte more.
 fn step(remainder: u32, byte: u8) -> u32 {
     let low = (remainder % 256) as u8;
-    TABLE[(low ^ byte) as usize] ^ (remainder / 256)
+    TABLE[usize::from(low ^ byte)] ^ (remainder / 256)
 }
 
 // The sum of some bytes.

@@ -120,7 +120,7 @@ pub fn move_of(from: u8, event: Event) -> u8
     requires { from < 4 }
     ensures { result ≡ move_of from (column event) }
 {
-    MOVES[from as usize][event as usize]
+    MOVES[usize::from(from)][event as usize]
 }
 
 impl Held {
