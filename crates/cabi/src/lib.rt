@@ -62,7 +62,7 @@ impl Told for u32 {
     ghost values = { λ n. n ∷ [] };
 
     fn told(self) -> Answer {
-        value(u64::from(self))
+        value(self.into())
     }
 }
 
