@@ -4,23 +4,23 @@ use Rattle.std.specs.Prelude.{Option, Some, None, is_some, is_none, slice_get, �
 use Rattle.std.specs.List.{list_all, zip}
 use mathlib.Core.Path.{◌≡◌, refl, sym, ◌∙◌, ap}
 use mathlib.Core.Bool.{Bool, true, false, not}
-use mathlib.Core.List.{List, [], ◌∷◌, ◌++◌, map}
+use mathlib.Core.List.{List, [], ◌∷◌, ◌++◌, map, append_assoc, append-nil}
 use native.Mathlib.Omega.{arith}
 use native.Mathlib.Numerals.{add-one}
 use borrow.Author.Tests.{eq-eqb, ne_eqb, eqb-true, ltb-true, lt-ltb, le-ltb}
-use lib.ListN.{length, take, drop, get_or}
-use lib.Seq.{length-take-le, take-suc, take_all, split_at}
+use lib.ListN.{length, take, drop, get_or, length-append}
+use lib.Seq.{take-suc, split_at}
 use lib.Dec.{eqb, ltb}
 use Rattle.layout.specs.Sizes.{number_limit}
 use Rattle.layout.specs.Bytes.{both}
 use Rattle.layout.proofs.Tests.{never, both_left, both_right, not_true_false, true_not_false}
 use Rattle.walk.specs.declared.Entry.{Entry}
-use Rattle.walk.specs.Walk.{Rising, no_entry}
+use Rattle.walk.specs.Walk.{Rising}
 use Rattle.walk.proofs.Rules.{valid_sound}
 use Rattle.state.specs.declared.Listed.{Listed}
 use Rattle.state.specs.declared.Pin.{Pin}
 use Rattle.state.specs.declared.Held.{Held}
-use Rattle.state.specs.Lists.{pick, any, all, IsPlaceOf, pairs, unflushed, in_flight, flushed, gone, no_listed, no_held, no_pin, holding, entry_of, phase_fits, RisingTo}
+use Rattle.state.specs.Lists.{pick, any, all, IsPlaceOf, pairs, unflushed, in_flight, flushed, gone, no_held, no_pin, holding, entry_of, phase_fits, RisingTo}
 use Rattle.state.specs.Pins.{is_due, pin_place}
 use Rattle.state.proofs.Library.{none_found}
 use Rattle.state.proofs.Bools.{both_intro, yes_both, no_both}
@@ -48,13 +48,6 @@ holding_entries [] ws e = refl
 holding_entries (x ∷ es) [] e = absurd (omega arith)
 holding_entries (x ∷ es) (w ∷ ws) e = ap (◌∷◌ x) (holding_entries es ws (omega arith))
 
-pub holding_snoc : (es : List Entry) (ws : List Listed) (e : Entry) (w : Listed) → length es ≡ length ws
-    → holding (es ++ e ∷ []) (ws ++ w ∷ []) ≡ holding es ws ++ record { entry = e; phase = w.phase } ∷ []
-holding_snoc [] [] e w k = refl
-holding_snoc [] (v ∷ ws) e w k = absurd (omega arith)
-holding_snoc (x ∷ es) [] e w k = absurd (omega arith)
-holding_snoc (x ∷ es) (v ∷ ws) e w k = ap (◌∷◌ (record { entry = x; phase = v.phase })) (holding_snoc es ws e w (omega arith))
-
 -- a pass over both tests them in order
 pub list_zip : (next : ℕ) (es : List Entry) (ws : List Listed) → length es ≡ length ws
     → list_all (λ x. listed_fits next x.0.number x.1) (zip es ws) ≡ list_fits next es ws
@@ -69,31 +62,48 @@ list_zip next (e ∷ es) (w ∷ ws) k = at (listed_fits next e.number w) (list_z
     at true e = e ∙ sym (yes_both _)
     at false e = sym (no_both _)
 
--- the pass that holds the entries: those of the first i stand there
-module _ (es : List Entry) (ws : List Listed) (k : length es ≡ length ws) where
-  pub hold_on : (hs hs' : List Held) (i : ℕ) → i < length es → hs ≡ holding (take i es) (take i ws)
-      → hs' ≡ hs ++ record { entry = get_or es i no_entry; phase = (get_or ws i no_listed).phase } ∷ []
-      → hs' ≡ holding (take (i + 1) es) (take (i + 1) ws)
-  hold_on hs hs' i h e a =
-      let same : length (take i es) ≡ length (take i ws) = length-take-le i es (omega arith) ∙ sym (length-take-le i ws (omega arith)) in
-      let one : Held = record { entry = get_or es i no_entry; phase = (get_or ws i no_listed).phase } in
-      let more : holding (take (i + 1) es) (take (i + 1) ws) ≡ holding (take i es) (take i ws) ++ one ∷ [] =
-      rw (add-one i, take-suc es i no_entry (omega arith), take-suc ws i no_listed (omega arith))
-      (holding_snoc (take i es) (take i ws) (get_or es i no_entry) (get_or ws i no_listed) same) in
-      a ∙ ap (λ hs. hs ++ one ∷ []) e ∙ sym more
+-- the pass that holds the entries: what is held so far, and what the rest of both lists would still give
+pub record Holding (es : List Entry) (ws : List Listed) (hs : List Held) (xs : List Entry) (vs : List Listed) : Type 0 where
+  pub split : holding es ws ≡ hs ++ holding xs vs
+  pub same : length xs ≡ length vs
+  pub count : length hs + length xs ≡ length es
 
-  -- they take no more places than the entries
-  pub hold_room : (hs : List Held) (i : ℕ) → i < length es → hs ≡ holding (take i es) (take i ws) → length hs < length es
-  hold_room hs i h e =
-      let same : length (take i es) ≡ length (take i ws) = length-take-le i es (omega arith) ∙ sym (length-take-le i ws (omega arith)) in
-      let n : length hs ≡ i = ap length e ∙ holding_length (take i es) (take i ws) same ∙ length-take-le i es (omega arith) in
-      omega arith
+module _ (es : List Entry) (ws : List Listed) (hs : List Held) (xs : List Entry) (vs : List Listed) where
+  pub hold_start : length es ≡ length ws → hs ≡ [] → xs ≡ es → vs ≡ ws → Holding es ws hs xs vs
+  hold_start k e a b =
+      let n : length hs ≡ 0 = ap length e in
+      let x : length xs ≡ length es = ap length a in
+      let v : length vs ≡ length ws = ap length b in
+      record { split = rw (e, a, b); same = x ∙ k ∙ sym v; count = omega arith }
 
-  pub hold_end : (hs : List Held) (i : ℕ) → length es ≤ i → hs ≡ holding (take i es) (take i ws) → hs ≡ holding es ws
-  hold_end hs i h e =
-      let a : take i es ≡ es = take_all i es h in
-      let b : take i ws ≡ ws = take_all i ws (omega arith) in
-      rw (a, b) at e
+  module _ (k : Holding es ws hs xs vs) where
+    pub hold_room : (e : Entry) (xs' : List Entry) → xs ≡ e ∷ xs' → length hs < length es
+    hold_room e xs' a =
+        let n = k.count in
+        let m : length xs ≡ suc (length xs') = ap length a in
+        omega arith
+
+    pub hold_on : (e : Entry) (w : Listed) (xs' : List Entry) (vs' : List Listed) (hs' : List Held) → xs ≡ e ∷ xs' → vs ≡ w ∷ vs'
+        → hs' ≡ hs ++ record { entry = e; phase = w.phase } ∷ [] → Holding es ws hs' xs' vs'
+    hold_on e w xs' vs' hs' a b c =
+        let one : Held = record { entry = e; phase = w.phase } in
+        let n = k.count in
+        let s = k.same in
+        let x : length xs ≡ suc (length xs') = ap length a in
+        let v : length vs ≡ suc (length vs') = ap length b in
+        let l : length hs' ≡ length hs + 1 = ap length c ∙ length-append hs (one ∷ []) in
+        record {
+          split = k.split ∙ rw (a, b) refl ∙ sym (append_assoc hs (one ∷ []) (holding xs' vs')) ∙ ap (λ l. l ++ holding xs' vs') (sym c);
+          same = omega arith;
+          count = omega arith;
+        }
+
+    pub hold_end : length xs ≡ 0 → hs ≡ holding es ws
+    hold_end z = at xs vs z k.split
+      where
+        at : (ys : List Entry) (us : List Listed) → length ys ≡ 0 → holding es ws ≡ hs ++ holding ys us → hs ≡ holding es ws
+        at [] us z e = sym (e ∙ append-nil hs)
+        at (y ∷ ys) us z e = absurd (omega arith)
 
 -- numbers rise, as the entries' do, below what is above them all
 pub holding_rising : (es : List Entry) (ws : List Listed) (last : ℕ) → Rising last es → RisingTo number_limit last (holding es ws)

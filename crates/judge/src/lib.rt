@@ -47,10 +47,10 @@ fn hold(entries: &[Entry], writes: &[Listed]) -> ArrayVec<Held, ENTRIES>
     ensures { result.items ≡ holding entries.now writes.now }
 {
     let mut held = ArrayVec::new();
-    for (i, entry) in entries.iter().enumerate() {
+    for (entry, listed) in entries.iter().zip(writes) {
         held.push(Held {
             entry: *entry,
-            phase: writes[i].phase,
+            phase: listed.phase,
         });
     }
     held

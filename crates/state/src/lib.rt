@@ -249,14 +249,15 @@ pub fn leave(held: &[Held], pins: &[Pin]) -> Leaving
     }
 }
 
+// The array before anything is listed. Three functions begin with it, and that it is blank is proved here.
 fn none_listed() -> [Listed; Ring::ENTRIES]
     ensures { result ≡ replicate most_entries no_listed }
 {
     [Listed::default(); Ring::ENTRIES]
 }
 
-// The held writes as the state lists them.
-pub fn list_of(held: &[Held]) -> [Listed; Ring::ENTRIES]
+// The held writes as the state lists them. A slice has no bound of its own, so the limit is asked wherever a list becomes an array.
+fn list_of(held: &[Held]) -> [Listed; Ring::ENTRIES]
     requires { length held.now ≤ most_entries }
     ensures { result ≡ listing held.now }
 {

@@ -1,8 +1,6 @@
--- `judge::hold` meets its contract: the entries so far stand in front, beside their states.
-use mathlib.Core.Path.{◌≡◌}
-use lib.ListN.{take}
-use Rattle.state.specs.Lists.{holding}
+-- `judge::hold` meets its contract: what is held so far, and behind it what the rest of both would still give (`Holding`).
+use Rattle.judge.proofs.Fitting.{Holding}
 use Rattle.judge.proofs.hold.Given as goal
 
-abbrev pub invariant-loop-i : goal.invariant-loop-i
-invariant-loop-i l = l.held.items ≡ holding (take l.i l.entries) (take l.i l.writes)
+abbrev pub invariant-loop-entry : goal.invariant-loop-entry
+invariant-loop-entry l = Holding l.entries l.writes l.held.items l.entry-iterator.a.rest.now l.entry-iterator.b.rest.now
