@@ -1,12 +1,11 @@
 // What a script works on, and running one line of it.
 use arrayvec::ArrayVec;
 use command::Command;
-use layout::Ring;
 use looks::answer::{Answer, Refusal};
 use looks::look;
 use looks::output::Out;
 use script::line;
-use state::{Listed, PINS, Pin, State};
+use state::State;
 use std::io;
 
 // The longest ring and buffer, and the most bytes of a write.
@@ -20,28 +19,16 @@ pub struct Bench {
     pub out: Out,
 }
 
-const NO_STATE: State = State {
-    next: 0,
-    flush: 0,
-    count: 0,
-    writes: [Listed {
-        number: 0,
-        phase: 0,
-    }; Ring::ENTRIES],
-    pins: [Pin {
-        number: 0,
-        mark: 0,
-        node: 0,
-    }; PINS],
-};
-
 impl Bench {
     // Before the first line: no ring, no buffer, and a state of zeros.
     pub fn new(out: Out) -> Self {
         Bench {
             ring: ArrayVec::new(),
             buffer: ArrayVec::new(),
-            state: NO_STATE,
+            state: State {
+                next: 0,
+                ..state::empty_state()
+            },
             out,
         }
     }

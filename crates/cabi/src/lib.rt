@@ -13,7 +13,7 @@ use flush::Started;
 use reason::Reason;
 use state::State;
 
-// The refusal's number, 0 for none; the value, 0 for none; the length of a flush sheet, 0 for none.
+// The refusal's number, 0 for none; the value, 0 for none; the length of a flush sheet, 0 for none. Plain numbers, since C has no Result.
 #[repr(C)]
 #[derive(Clone, Copy)]
 pub struct Answer {

@@ -190,7 +190,6 @@ fn next_fits(next: u64, flush: u64) -> bool
 
 // The judge of a ring that is readable: the entries are held beside their states, and then judged.
 fn judge_walked(walked: &Walked, s: &State) -> Result<Judged, Reason>
-    requires { length walked.now.entries.items ≤ most_entries }
     ensures { result ≡ judged_of (readable walked.now.ring walked.now.entries.items) s.now }
 {
     let entries = walked.entries.as_slice();

@@ -49,14 +49,6 @@ impl Ring {
     }
 }
 
-// The byte at p.
-pub fn byte_at(bytes: &[u8], p: usize) -> u32
-    requires { p < length bytes.now }
-    ensures { (result ≡ flat bytes.now p) × (result < 256) }
-{
-    u32::from(bytes[p])
-}
-
 // The N bytes at p. A number in them is what `from_le_bytes` of its type reads (proofs/Numbers, `le2`, `le4` and `le8`).
 pub fn array_at<const N: usize>(bytes: &[u8], p: usize) -> [u8; N]
     requires { p + N ≤ length bytes.now }
@@ -67,7 +59,8 @@ pub fn array_at<const N: usize>(bytes: &[u8], p: usize) -> [u8; N]
     array
 }
 
-// Whether the count bytes at p are zero. It looks at all of them: without a way out the compiler takes many bytes at once.
+// Whether the count bytes at p are zero. It looks at all of them: without a way out the compiler takes many bytes at once, and
+// a walk is several times faster (docs/DECISIONS.md, 54).
 pub fn zeros_at(bytes: &[u8], p: usize, count: usize) -> bool
     requires { p + count ≤ length bytes.now }
     ensures { result ≡ zeros_at (flat bytes.now) p count }

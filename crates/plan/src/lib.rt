@@ -28,14 +28,14 @@ use walk::Entry;
 
 // First the head byte, where the head moves; then the entry, where there is one.
 #[repr(C)]
-#[derive(Clone, Copy)]
+#[derive(Clone, Copy, Default)]
 pub struct Plan {
     // N of the ring that it was made for.
     pub n: usize,
     // The head slot before, and the one after.
     pub from: usize,
     pub head: usize,
-    // The entry that is stored; its number is 0 where none is, since a host in C keeps the plan.
+    // The entry that is stored; its number is 0 where none is (`step_count`, `store_part`): a plan is plain numbers, which a host keeps.
     pub entry: Entry,
 }
 
@@ -50,13 +50,7 @@ pub struct Span {
 pub fn no_plan() -> Plan
     ensures { result ≡ no_plan }
 {
-    let entry = walk::no_entry();
-    Plan {
-        n: 0,
-        from: 0,
-        head: 0,
-        entry,
-    }
+    Plan::default()
 }
 
 // How many steps move the head: one or none.
@@ -174,7 +168,7 @@ fn step_entry(bytes: &mut [u8], plan: Plan, src: &[u8], j: usize) -> Result<Span
     Ok(span_at(n, entry, j))
 }
 
-// Makes step i of a plan, counted from 0: one store.
+// Makes step i of a plan, counted from 0: one store. A host names the step by its number (`step_answer`), so no function is handed out for it.
 pub fn make_step(bytes: &mut [u8], plan: Plan, src: &[u8], i: usize) -> Result<Span, Reason>
     ensures answer { result ≡ step_answer plan src.now i bytes.old }
     ensures bytes { bytes.new ≡ step_ring plan src.now i bytes.old }

@@ -154,7 +154,7 @@ impl Walker<'_> {
     }
 }
 
-// The pieces of a batch's sheet, ascending.
+// The pieces of a batch's sheet, ascending. The walker, whose type holds `Batch`, is made here.
 pub fn pieces_of(entries: &[Entry]) -> Pieces
     requires { Batch entries.now }
     ensures { result ≡ pieces_from (in_order (grow (key_by entries.now) file_end)) }
@@ -222,17 +222,18 @@ impl Source<'_> {
         }
     }
 
-    // The bytes of a piece: each write is painted over the older ones, so the newest is seen, and no place is searched for.
+    // The bytes of a piece: each write is painted over the older ones, so the newest is seen, and no place is searched for. Writes are named by place, so that the
+    // wrong order can be tried (must-fail/oldest_write_wins.edit); the wrong order of an iterator only unfits the proof.
     fn put_piece(&self, start: usize, out: &mut [u8])
         requires { (start + length out.old ≤ file_end) × Covered self.now.entries.now start (length out.old) }
         ensures { out.new ≡ bytes_at (byte_by (round self.now.slots.bytes.now self.now.slots.n) self.now.entries.now) start (length out.old) }
     {
-        for entry in self.entries {
-            self.put_overlap(*entry, start, out);
+        for i in 0..self.entries.len() {
+            self.put_overlap(self.entries[i], start, out);
         }
     }
 
-    // The bytes of a piece, in the part of a buffer from `at` up to `end`.
+    // The bytes of a piece, in the part of a buffer from `at` up to `end`. The buffer comes whole, so that the promise speaks of what stands before and behind.
     fn put_part(&self, start: usize, buffer: &mut [u8], at: usize, end: usize)
         requires { (at ≤ end) × (end ≤ length buffer.old) × (start + (end - at) ≤ file_end) × Covered self.now.entries.now start (end - at) }
         ensures { buffer.new ≡ laid_at buffer.old at (bytes_at (byte_by (round self.now.slots.bytes.now self.now.slots.n) self.now.entries.now) start (end - at)) }
@@ -266,6 +267,7 @@ impl Source<'_> {
 }
 
 // The sheet of a batch, written to the front of a buffer, and its length; or none where the buffer is too short for it and stays as it was.
+// The source, whose type holds `Laid`, is made here.
 pub fn make_sheet(slots: &Slots, entries: &[Entry], node: u32, buffer: &mut [u8]) -> Option<usize>
     requires { Laid slots.now.n entries.now }
     ensures made { result ≡ made_from (length buffer.old) (sheet_of node (map (write_of (round slots.now.bytes.now slots.now.n)) entries.now)) }

@@ -292,7 +292,7 @@ pub fn find_pin(pins: &[Pin], number: u64) -> Option<usize>
 
 // ---- what is asked
 
-// The node whose turn it is.
+// The node whose turn it is, or 0, as the definition `turn_of` has it.
 pub fn turn_of(held: &[Held]) -> u32
     requires { RisingTo number_limit 0 held.now }
     ensures { result ≡ turn_of held.now }

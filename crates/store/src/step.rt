@@ -28,7 +28,8 @@ pub fn put_byte(bytes: &mut [u8], p: usize, value: u8)
     bytes[p] = value;
 }
 
-// Step i of storing an entry with its bytes: one slot, or the tail byte behind the last.
+// Step i of storing an entry with its bytes: one slot, or the tail byte behind the last. Chosen by its number, as the definition numbers them (`store_step`):
+// a host stops and goes on between any two.
 pub fn store_step(bytes: &mut [u8], n: usize, entry: Entry, src: &[u8], i: usize)
     requires sized { Sized bytes.old n }
     requires slot_lt_n { (entry.slot < n) × (entry.length ≡ length src.now) × (entry.length ≤ largest) × (i ≤ slots_of entry.length) }

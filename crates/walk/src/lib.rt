@@ -23,7 +23,7 @@ use arrayvec::ArrayVec;
 use layout::{Ring, Slots};
 use reason::Reason;
 
-// An entry's head, and where it stands.
+// An entry's head, and where it stands. A walk reads it from any bytes, so its type holds none of the table's bounds: who needs one asks for it.
 #[derive(Clone, Copy, Default)]
 pub struct Entry {
     pub number: u64,
@@ -67,9 +67,9 @@ pub fn header_of(bytes: &[u8]) -> Option<Ring>
     if bytes.len() < Ring::HEADER {
         return None;
     }
-    let n = layout::byte_at(bytes, 1) as usize;
-    let head = layout::byte_at(bytes, 2) as usize;
-    let tail = layout::byte_at(bytes, 3) as usize;
+    let n = usize::from(bytes[1]);
+    let head = usize::from(bytes[2]);
+    let tail = usize::from(bytes[3]);
     if n < Ring::FEWEST {
         return None;
     }
@@ -191,15 +191,7 @@ pub fn step_at(slots: &Slots, at: Cursor) -> Option<Entry>
 pub fn no_entry() -> Entry
     ensures { result ≡ no_entry }
 {
-    Entry {
-        number: 0,
-        node: 0,
-        handle: 0,
-        offset: 0,
-        length: 0,
-        zero: 0,
-        slot: 0,
-    }
+    Entry::default()
 }
 
 // The walk from head: where a step yields no entry short of the tail, the answer is no at once. It goes on by the slots of what it found, so nothing

@@ -35,4 +35,4 @@ returns c = let r = c.args.bytes.now in
       tail = omega arith;
       zeros = sym c.zeros_at.ensures ∙ c.if-not-zeros_at.false;
     } in
-    sym (header_good r z ∙ rw (c.byte_at-n.ensures.0, c.byte_at-head.ensures.0, c.byte_at-tail.ensures.0))
+    sym (header_good r z ∙ rw (c.from-n.ensures, c.from-head.ensures, c.from-tail.ensures))

@@ -3,11 +3,11 @@ use native.Mathlib.Omega.{arith}
 use Rattle.sheet.proofs.Painting.{paint_start, paint_on, paint_done}
 use Rattle.sheet.proofs.Source.put_piece.Goals as goal
 
-pub loop-entry-init : goal.loop-entry-init
-loop-entry-init c = paint_start _ _ _ _
+pub loop-i-init : goal.loop-i-init
+loop-i-init c = paint_start _ _ _ _
 
-pub loop-entry-preserved : goal.loop-entry-preserved
-loop-entry-preserved c = paint_on _ _ _ _ _ _ c.loop-entry.invariant _ c.put_overlap.ensures
+pub loop-i-preserved : goal.loop-i-preserved
+loop-i-preserved c = paint_on _ _ _ _ _ _ c.loop-i.invariant _ c.put_overlap.ensures
 
 pub returns : goal.returns
-returns c = paint_done _ _ _ _ _ _ c.loop-entry.invariant c.requires.1 (omega arith)
+returns c = paint_done _ _ _ _ _ _ c.loop-i.invariant c.requires.1 (omega arith)
