@@ -1,13 +1,13 @@
 -- The search for a byte: from the newest held write back, the first that covers the place is the newest of those that do.
 -- Document 01, "Moves", paragraph "Fill": "the search for a byte stops at the newest write that covers it".
 use Rattle.std.specs.Prelude.{Option, None, Some}
-use Prim.Native.Nat.{ℕ, suc, ◌-◌, ◌*◌, ◌+◌, ◌≤◌, ◌<◌}
+use Rattle.std.specs.List.{find}
+use Prim.Native.Nat.{ℕ, ◌-◌, ◌*◌, ◌+◌, ◌≤◌, ◌<◌}
 use mathlib.Core.Path.{◌≡◌, refl, sym, ap, ◌∙◌}
-use mathlib.Core.Bool.{Bool, true, false}
-use mathlib.Core.List.{List, [], ◌∷◌, ◌++◌, map}
+use mathlib.Core.Bool.{Bool, true, false, cond}
+use mathlib.Core.List.{List, [], ◌∷◌, ◌++◌, map, reverse, reverse-cons}
 use native.Mathlib.Omega.{arith}
-use lib.ListN.{length, take, get_or}
-use lib.Seq.{take-suc}
+use lib.ListN.{get_or}
 use Rattle.layout.specs.Sizes.{slot_size, head_size}
 use Rattle.layout.specs.Bytes.{both}
 use Rattle.layout.proofs.Tests.{both_right, not_true_false, true_not_false}
@@ -16,9 +16,9 @@ use Rattle.walk.specs.declared.Entry.{Entry}
 use Rattle.walk.specs.Entry.{data_of}
 use Rattle.walk.specs.Walk.{Write, write_of}
 use Rattle.state.specs.declared.Held.{Held}
-use Rattle.state.specs.Lists.{pick, no_held, entry_of, those}
+use Rattle.state.specs.Lists.{pick, entry_of, those}
 use Rattle.shore.specs.Cover.{spans, covers, or_else, last_that, newest, byte_in, byte_over}
-use Rattle.shore.proofs.Covering.{last_snoc, spans_out}
+use Rattle.shore.proofs.Covering.{last_passes, spans_out}
 use Rattle.rules.specs.Fill.{is_of, writes_by}
 use Rattle.fill.specs.Overlay.{is_over}
 
@@ -32,6 +32,31 @@ over_inside node p h e =
     let a = k.0 in
     let b = k.1 in
     (a, omega arith)
+
+-- ---- the search from the back finds the last that passes
+
+module _ {A : Type 0} (q : A → Bool) where
+  find_append : (xs ys : List A) → find q (xs ++ ys) ≡ or_else (find q xs) (find q ys)
+  find_append [] ys = refl
+  find_append (x ∷ xs) ys = at (q x) (find_append xs ys)
+    where
+      at : (b : Bool) → find q (xs ++ ys) ≡ or_else (find q xs) (find q ys) → cond b (Some x) (find q (xs ++ ys)) ≡ or_else (cond b (Some x) (find q xs)) (find q ys)
+      at true e = refl
+      at false e = e
+
+  find_back : (xs : List A) → find q (reverse xs) ≡ last_that q xs
+  find_back [] = refl
+  find_back (x ∷ xs) = ap (find q) (reverse-cons x xs) ∙ find_append (reverse xs) (x ∷ []) ∙ ap (λ o. or_else o (cond (q x) (Some x) None)) (find_back xs)
+      ∙ ap (or_else (last_that q xs)) (at (q x))
+    where
+      at : (b : Bool) → cond b (Some x) None ≡ pick b (Some x) None
+      at true = refl
+      at false = refl
+
+-- so a write that it finds is over the place
+pub newest_inside : (node p : ℕ) (hs : List Held) (h : Held) → Some h ≡ find (is_over node p) (reverse hs)
+    → (h.entry.offset ≤ p) × (p - h.entry.offset < h.entry.length)
+newest_inside node p hs h e = over_inside node p h (last_passes (is_over node p) hs h (sym (e ∙ find_back (is_over node p) hs)))
 
 -- ---- the newest of a node's writes is that of the last held write which is the node's and covers the place
 
@@ -79,12 +104,6 @@ module _ (node : ℕ) (f : ℕ → ℕ) (p : ℕ) where
           ∙ sym (wrote_or f (last_that (is_over node p) hs) (pick t (Some h) None) ∙ ap (or_else (wrote f (last_that (is_over node p) hs))) (wrote_pick f t h None))
       at false e = e ∙ ap (wrote f) (sym (or_none (last_that (is_over node p) hs)))
 
-  newest_snoc : (hs : List Held) (h : Held)
-      → newest p (writes_by node f (hs ++ h ∷ [])) ≡ pick (is_over node p h) (Some (write_of f h.entry)) (newest p (writes_by node f hs))
-  newest_snoc hs h =
-      newest_is (hs ++ h ∷ []) ∙ ap (wrote f) (last_snoc (is_over node p) hs h) ∙ wrote_pick f (is_over node p h) h (last_that (is_over node p) hs)
-      ∙ ap (pick (is_over node p h) (Some (write_of f h.entry))) (sym (newest_is hs))
-
   -- so writes may be left out that aren't over the place
   pub byte_those : (q : Held → Bool) → ((h : Held) → is_over node p h ≡ true → q h ≡ true) → (other : ℕ) (hs : List Held)
       → byte_over p other (writes_by node f (those q hs)) ≡ byte_over p other (writes_by node f hs)
@@ -92,40 +111,15 @@ module _ (node : ℕ) (f : ℕ → ℕ) (p : ℕ) where
   byte_those q k other hs =
       ap (byte_in p other) (newest_is (those q hs) ∙ ap (wrote f) (last_those (is_over node p) q k hs) ∙ sym (newest_is hs))
 
-  -- ---- the search: no write from place i on covers p, so that those before it decide
+  -- the byte is that of the write that the search finds, else the other
+  found_byte : (other : ℕ) (hs : List Held) (o : Option Held) → o ≡ find (is_over node p) (reverse hs)
+      → byte_in p other (wrote f o) ≡ byte_over p other (writes_by node f hs)
+  unfolding byte_over
+  found_byte other hs o e = ap (byte_in p other) (ap (wrote f) (e ∙ find_back (is_over node p) hs) ∙ sym (newest_is hs))
 
-  pub record Seeking (held : List Held) (other i : ℕ) : Type 0 where
-    pub upto : i ≤ length held
-    pub rest : byte_over p other (writes_by node f held) ≡ byte_over p other (writes_by node f (take i held))
+  pub byte_none : (other : ℕ) (hs : List Held) → None ≡ find (is_over node p) (reverse hs) → other ≡ byte_over p other (writes_by node f hs)
+  byte_none other hs = found_byte other hs None
 
-  module _ (held : List Held) (other : ℕ) where
-    pub seek_none : (i : ℕ) → Seeking held other i → i ≡ 0 → other ≡ byte_over p other (writes_by node f held)
-    unfolding byte_over
-    seek_none i s z = sym (s.rest ∙ rw z)
-
-    module _ (i : ℕ) (s : Seeking held other i) (z : i ≡ 0 → ⊥) where
-      step : byte_over p other (writes_by node f held)
-          ≡ byte_in p other (pick (is_over node p (get_or held (i - 1) no_held)) (Some (write_of f (get_or held (i - 1) no_held).entry)) (newest p (writes_by node f (take (i - 1) held))))
-      unfolding byte_over
-      step =
-          let u = s.upto in
-          let e : i ≡ suc (i - 1) = omega (arith, z) in
-          let h : i - 1 < length held = omega (arith, z) in
-          s.rest
-          ∙ ap (λ j. byte_in p other (newest p (writes_by node f (take j held)))) e
-          ∙ ap (λ hs. byte_in p other (newest p (writes_by node f hs))) (take-suc held (i - 1) no_held h)
-          ∙ ap (byte_in p other) (newest_snoc (take (i - 1) held) (get_or held (i - 1) no_held))
-
-      pub seek_on : is_over node p (get_or held (i - 1) no_held) ≡ false → Seeking held other (i - 1)
-      unfolding byte_over
-      seek_on e =
-          let u = s.upto in
-          record {
-            upto = omega arith;
-            rest = step ∙ ap (λ b. byte_in p other (pick b (Some (write_of f (get_or held (i - 1) no_held).entry)) (newest p (writes_by node f (take (i - 1) held))))) e;
-          }
-
-      pub seek_here : is_over node p (get_or held (i - 1) no_held) ≡ true
-          → get_or (data_of f (get_or held (i - 1) no_held).entry) (p - (get_or held (i - 1) no_held).entry.offset) 0 ≡ byte_over p other (writes_by node f held)
-      seek_here e =
-          sym (step ∙ ap (λ b. byte_in p other (pick b (Some (write_of f (get_or held (i - 1) no_held).entry)) (newest p (writes_by node f (take (i - 1) held))))) e)
+  pub byte_some : (other : ℕ) (hs : List Held) (h : Held) → Some h ≡ find (is_over node p) (reverse hs)
+      → get_or (data_of f h.entry) (p - h.entry.offset) 0 ≡ byte_over p other (writes_by node f hs)
+  byte_some other hs h = found_byte other hs (Some h)

@@ -3,8 +3,9 @@
 // touch its block, newest first.
 #![tactic(auto)]
 
-ghost use Rattle.std.specs.Prelude.{◌≡◌, [], List, ◌+◌, ◌≤◌, ◌<◌, length, replicate, ltb};
-ghost use Rattle.std.specs.List.{list_any};
+ghost use Rattle.std.specs.Prelude.{◌≡◌, [], List, ◌+◌, ◌≤◌, ◌<◌, length, replicate, reverse, ltb};
+ghost use Rattle.std.specs.List.{list_any, find};
+ghost use Rattle.std.specs.Option.{option_map};
 ghost use Rattle.layout.specs.Sizes.{most_entries, file_end};
 ghost use Rattle.layout.specs.Bytes.{both, round};
 ghost use Rattle.walk.specs.Walk.{Write, unreadable};
@@ -97,6 +98,14 @@ fn is_over(held: Held, node: u32, p: usize) -> bool
     entry.node == node && start <= p && p < stop
 }
 
+// The newest of the writes that are the node's and cover a place of its file. They stand oldest first, so the search goes from the back, as document 01
+// has it: from the newest write to the oldest, up to the first that covers the place.
+fn newest_over(held: &[Held], node: u32, p: usize) -> Option<&Held>
+    ensures { option_map (λ y. y.now) result ≡ find (is_over node p) (reverse held.now) }
+{
+    held.iter().rev().find(|one| is_over(**one, node, p))
+}
+
 // Whether a write is the node's and touches its file from a place up to an end.
 #[tactic(auto, using(std::proofs::lemmas::Bool::Decides::nat_tests), unfolding(layout::specs::Bytes::both))]
 fn is_near(held: Held, node: u32, from: usize, end: usize) -> bool
@@ -126,26 +135,18 @@ impl<'a> Model for Layer<'a> {
 
 impl<'a> Layer<'a> {
     // Lays the writes over bytes of the file, which stand in it from a place on. Each byte is that of the newest write that covers it, else
-    // as it was; the search for a byte stops there. The loops have this form in document 01: over the bytes, in it from the newest write back.
-    #[tactic(auto, using(crate::proofs::Overlaying::lay_start, crate::proofs::Seeking::over_inside, crate::proofs::Seeking::seek_on))]
+    // as it was. Document 01 has it so: a loop over the bytes, in it a search from the newest write back, which stops at the one that covers the byte.
+    #[tactic(auto, using(crate::proofs::Overlaying::lay_start, crate::proofs::Seeking::newest_inside))]
     fn overlay(&self, from: usize, out: &mut [u8])
         requires { from + length out.old ≤ file_end }
         ensures { out.new ≡ overlaid self.now from out.old }
     {
         for (k, byte) in out.iter_mut().enumerate() {
             let p = from + k;
-            let mut i = self.held.len();
-            *byte = loop {
-                if i == 0 {
-                    break *byte;
-                }
-                i -= 1;
-                let one = self.held[i];
-                if is_over(one, self.node, p) {
-                    let entry = one.entry;
-                    break walk::entry_byte(&self.slots, entry, p - entry.offset as usize);
-                }
-            };
+            if let Some(one) = newest_over(self.held, self.node, p) {
+                let entry = one.entry;
+                *byte = walk::entry_byte(&self.slots, entry, p - entry.offset as usize);
+            }
         }
     }
 
