@@ -136,6 +136,7 @@ impl<'a> Model for Layer<'a> {
 impl<'a> Layer<'a> {
     // Lays the writes over bytes of the file, which stand in it from a place on. Each byte is that of the newest write that covers it, else
     // as it was. Document 01 has it so: a loop over the bytes, in it a search from the newest write back, which stops at the one that covers the byte.
+    // A part and where it begins come apart here and below: the part is lent on in pieces, and a struct of both would be made anew for each.
     #[tactic(auto, using(crate::proofs::Overlaying::lay_start, crate::proofs::Seeking::newest_inside))]
     fn overlay(&self, from: usize, out: &mut [u8])
         requires { from + length out.old ≤ file_end }
