@@ -18,6 +18,7 @@ const MAP_SHARED: c_int = 1;
 const MS_SYNC: c_int = 4;
 const LOCK_EX: c_int = 2;
 const LOCK_NB: c_int = 4;
+const LOCK_UN: c_int = 8;
 
 unsafe extern "C" {
     fn mmap(at: *mut c_void, length: usize, protection: c_int, flags: c_int, file: c_int, from: i64) -> *mut c_void;
@@ -30,7 +31,7 @@ pub struct RingFile {
     start: NonNull<u8>,
     length: usize,
     /// Open as long as the ring is mapped, for its lock.
-    _file: File,
+    file: File,
 }
 
 impl RingFile {
@@ -81,7 +82,7 @@ impl RingFile {
         let start = unsafe { mmap(std::ptr::null_mut(), length, protection, MAP_SHARED, file_number, 0) };
         // Failure is the address -1.
         match NonNull::new(start.cast::<u8>()) {
-            Some(start) if start.as_ptr().addr() != usize::MAX => Ok(RingFile { start, length, _file: file }),
+            Some(start) if start.as_ptr().addr() != usize::MAX => Ok(RingFile { start, length, file }),
             _ => Err(io::Error::last_os_error()),
         }
     }
@@ -96,6 +97,8 @@ impl Drop for RingFile {
     fn drop(&mut self) {
         // Fails only for an address that isn't mapped.
         unsafe { munmap(self.start.as_ptr().cast(), self.length) };
+        // A process that is just being started shares our open files for a moment, and would keep the lock as long.
+        flock(self.file.as_raw_fd(), LOCK_UN);
     }
 }
 
