@@ -97,6 +97,17 @@ fn run_at(n: usize, p: usize, count: usize) -> (usize, usize)
     (Ring::HEADER + turned, count.min(span - turned))
 }
 
+// Copies src over as many bytes. A loop, since the library's copy is one that may overlap: for that the archive for C would want `memmove` from its
+// host beside `memcpy` and `memset`.
+fn copy(out: &mut [u8], src: &[u8])
+    requires { length out.old ≡ length src.now }
+    ensures { out.new ≡ src.now }
+{
+    for i in 0..src.len() {
+        out[i] = src[i];
+    }
+}
+
 // The slots of a ring's bytes, n of them, read round the end.
 #[derive(Clone, Copy)]
 pub struct Slots<'a> {
@@ -122,8 +133,11 @@ impl Slots<'_> {
     {
         let (start, left) = run_at(self.n, p, out.len());
         let rest = out.len() - left;
-        out[..left].copy_from_slice(&self.bytes[start..start + left]);
-        out[left..].copy_from_slice(&self.bytes[Ring::HEADER..Ring::HEADER + rest]);
+        copy(&mut out[..left], &self.bytes[start..start + left]);
+        copy(
+            &mut out[left..],
+            &self.bytes[Ring::HEADER..Ring::HEADER + rest],
+        );
     }
 }
 
@@ -136,8 +150,8 @@ pub fn put_bytes(bytes: &mut [u8], n: usize, p: usize, src: &[u8])
 {
     let (start, left) = run_at(n, p, src.len());
     let rest = src.len() - left;
-    bytes[start..start + left].copy_from_slice(&src[..left]);
-    bytes[Ring::HEADER..Ring::HEADER + rest].copy_from_slice(&src[left..]);
+    copy(&mut bytes[start..start + left], &src[..left]);
+    copy(&mut bytes[Ring::HEADER..Ring::HEADER + rest], &src[left..]);
 }
 
 // Stores count zeros at place p of n slots, round the end. Not `put_bytes` of zeros: those would have to lie somewhere, as many as a ring has bytes.

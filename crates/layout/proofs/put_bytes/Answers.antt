@@ -10,4 +10,4 @@ pub returns : goal.returns
 returns c =
     let a = c.args in
     let o = c.run_at-start.ensures in
-    put_two a.src.now a.bytes.now a.n a.p _ _ c.requires.sized c.requires.p_bound.1 o.start o.left _ _ _ _ (omega arith) (omega arith) c.copy_from_slice.ensures.after (c.copy_from_slice-2.ensures.after ∙ between_to_end a.src.now c.run_at-start.result.1 (length a.src.now) (omega arith))
+    put_two a.src.now a.bytes.now a.n a.p _ _ c.requires.sized c.requires.p_bound.1 o.start o.left _ _ _ _ (omega arith) (omega arith) c.copy.ensures (c.copy-2.ensures ∙ between_to_end a.src.now c.run_at-start.result.1 (length a.src.now) (omega arith))

@@ -11,4 +11,4 @@ returns c =
     let s = a.self.now in
     let o = c.run_at-start.ensures in
     let m = mod-le a.p (span_of s.n) in
-    taken_two s.bytes.now s.n a.p a.out.now _ _ s.sized (omega arith) o.start o.left _ _ _ _ (omega arith) (omega arith) c.copy_from_slice.ensures.after c.copy_from_slice-2.ensures.after
+    taken_two s.bytes.now s.n a.p a.out.now _ _ s.sized (omega arith) o.start o.left _ _ _ _ (omega arith) (omega arith) c.copy.ensures c.copy-2.ensures
