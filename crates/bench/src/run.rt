@@ -37,8 +37,8 @@ impl Bench {
         self.out.say(format_args!("{answer}\n"));
     }
 
-    // Does what a line asks for, and says what comes of it.
-    fn obey(&mut self, line: &[u8]) -> Result<(), Refusal> {
+    // Does what the line of that number asks for, and says what comes of it.
+    fn obey(&mut self, line: &[u8], number: u64) -> Result<(), Refusal> {
         let answer = match command::command_of(line).ok_or(Refusal::NoCommand)? {
             Command::Call(call) => self.call(call)?,
             Command::Poke { place, byte } => self.poke(place, byte)?,
@@ -46,7 +46,8 @@ impl Bench {
             Command::Look(look) => {
                 let ring = self.ring.as_slice();
                 let buffer = self.buffer.as_slice();
-                return look::say_look(&mut self.out, look, ring, buffer, &self.state);
+                look::say_look(&mut self.out, number, look, ring, buffer, &self.state);
+                return Ok(());
             }
         };
         self.say_answer(answer);
@@ -58,7 +59,7 @@ impl Bench {
         if line::is_skipped(line) {
             return;
         }
-        if let Err(why) = self.obey(line) {
+        if let Err(why) = self.obey(line, number) {
             self.out.say_refusal(why, number);
         }
     }

@@ -5,23 +5,6 @@ use crate::show;
 use command::{Look, Store};
 use script::sum;
 use state::State;
-use std::fmt;
-
-// Bytes as the script spells them.
-#[derive(Clone, Copy)]
-struct Spelled<'a>(&'a [u8]);
-
-impl fmt::Display for Spelled<'_> {
-    fn fmt<W: fmt::Write>(&self, f: &mut fmt::Formatter<W>) -> fmt::Result {
-        if self.0.is_empty() {
-            return f.write_str("-");
-        }
-        for byte in self.0 {
-            write!(f, "{byte:02X}")?;
-        }
-        Ok(())
-    }
-}
 
 fn say_listed(out: &mut Out, s: &State) {
     for one in s.writes.iter().take(s.count) {
@@ -53,26 +36,29 @@ fn bytes_of<'a>(of: Store, ring: &'a [u8], buffer: &'a [u8]) -> &'a [u8] {
     }
 }
 
-// Says what a look shows, unless it is at bytes that aren't there or shows a ring that is refused.
-pub fn say_look(
-    out: &mut Out,
-    look: Look,
-    ring: &[u8],
-    buffer: &[u8],
-    s: &State,
-) -> Result<(), Refusal> {
+// Says a part of some bytes; where there is no such part, the line of that number is no command.
+fn say_part(out: &mut Out, line: u64, part: Option<&[u8]>) {
+    match part {
+        Some(part) => {
+            out.say("ok ");
+            out.say_bytes(part);
+            out.say("\n");
+        }
+        None => out.say_refusal(Refusal::NoCommand, line),
+    }
+}
+
+// Says what a look shows, for the line of that number.
+pub fn say_look(out: &mut Out, line: u64, look: Look, ring: &[u8], buffer: &[u8], s: &State) {
     match look {
         Look::Part { of, from, to } => {
-            let bytes = bytes_of(of, ring, buffer);
-            let part = bytes.get(from..to).ok_or(Refusal::NoCommand)?;
-            out.say(format_args!("ok {}\n", Spelled(part)));
+            say_part(out, line, bytes_of(of, ring, buffer).get(from..to));
         }
         Look::Sum { of } => {
             let sum = sum::sum_of(bytes_of(of, ring, buffer));
             out.say(format_args!("ok {sum:08X}\n"));
         }
         Look::State => say_state(out, s),
-        Look::Show => show::say_show(out, ring, s)?,
+        Look::Show => show::say_show(out, ring, s),
     }
-    Ok(())
 }

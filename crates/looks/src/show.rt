@@ -1,7 +1,7 @@
 // The picture of a ring: a cell for each slot, a letter for each node, and the pins.
-use crate::answer::Refusal;
 use crate::output::Out;
 use arrayvec::ArrayVec;
+use judge::Judged;
 use layout::Ring;
 use state::{FLUSHED, Held, IN_FLIGHT, State};
 use std::fmt;
@@ -131,9 +131,7 @@ fn say_pins(out: &mut Out, s: &State) {
 
 // ---- the picture
 
-// Says what a ring looks like, unless it or the state is refused.
-pub fn say_show(out: &mut Out, bytes: &[u8], s: &State) -> Result<(), Refusal> {
-    let judged = judge::judge(bytes, s)?;
+fn say_picture(out: &mut Out, judged: &Judged, s: &State) {
     let ring = judged.ring;
     let held = judged.held.as_slice();
     let legend = legend_of(held);
@@ -144,5 +142,12 @@ pub fn say_show(out: &mut Out, bytes: &[u8], s: &State) -> Result<(), Refusal> {
     say_cells(out, cells);
     say_legend(out, &legend);
     say_pins(out, s);
-    Ok(())
+}
+
+// Says what a ring looks like, or that it or the state is refused.
+pub fn say_show(out: &mut Out, bytes: &[u8], s: &State) {
+    match judge::judge(bytes, s) {
+        Ok(judged) => say_picture(out, &judged, s),
+        Err(why) => out.say_refused(why),
+    }
 }
