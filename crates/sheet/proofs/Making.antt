@@ -60,11 +60,15 @@ module _ (f : ℕ → ℕ) (es : List Entry) (b : Batch es) (node : ℕ) (x : Pi
       let w = ap length (sheet_writes f es b node) in
       rw (c, l) (omega arith)
 
+  pub pieces_few : length x.list.items ≤ most_batch
+  pieces_few = let gs = grow (key_by es) file_end in rw l (omega (arith, length-reverse gs, few_pieces es b.most file_end, b.few))
+
+  pub pieces_small : x.size ≤ file_end
+  pieces_small = let gs = grow (key_by es) file_end in rw l (omega (arith, total_order gs, grow_total (key_by es) file_end))
+
   -- so its length fits a number
   pub made_small : 8 + 8 * count + x.size ≤ 8 + 8 * most_batch + file_end
-  made_small =
-      let gs = grow (key_by es) file_end in
-      rw (c, l) (omega (arith, length-reverse gs, few_pieces es b.most file_end, b.few, total_order gs, grow_total (key_by es) file_end))
+  made_small = rw c (omega (arith, pieces_few, pieces_small))
 
   module _ (d : List ℕ) where
     pub made_short : length d < 8 + 8 * count + x.size → (None ≡ made_from (length d) sheet) × (d ≡ laid_if d sheet)
