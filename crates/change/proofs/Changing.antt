@@ -1,14 +1,12 @@
 -- What each return of write, unpin and report comes to: the calls that change the ring.
 use Rattle.std.specs.Prelude.{None, Result, Ok, Err}
 use Prim.Native.Nat.{ℕ, ◌+◌, ◌≤◌, ◌<◌}
-use Rattle.std.specs.List.{refill}
 use mathlib.Core.Path.{◌≡◌, refl, sym, ◌∙◌, ap}
 use mathlib.Core.Bool.{Bool, true, false}
 use mathlib.Core.List.{List, [], ◌∷◌, ◌++◌, map}
 use native.Mathlib.Omega.{arith}
 use borrow.Author.Tests.{eq-eqb, ne_eqb, lt-ltb, le-ltb}
 use lib.ListN.{length, set, length-map}
-use lib.Seq.{take_at}
 use lib.Dec.{eqb, ltb}
 use Rattle.reason.specs.declared.Reason.{Reason}
 use Rattle.reason.specs.declared.Reason.TheVariants.{NotTheFlush, NoSuchPin}
@@ -89,10 +87,6 @@ module _ (r : List ℕ) (s : State) (j : Judged) (k : Known r s j) where
         let f = o.few in
         let n : length moved ≡ length j.held.items = ap length e ∙ length-map j.held.items (reported event) in
         omega arith
-
-    -- the places that they are written back to are as many
-    pub moved_back : refill (length j.held.items) j.held.items moved ≡ moved
-    moved_back = take_at moved _ (length j.held.items) (ap length e ∙ length-map j.held.items (reported event))
 
     pub moved_fits : all phase_fits moved ≡ true
     moved_fits = ap (all phase_fits) e ∙ report_fits event v j.held.items (sure r s j k).phases

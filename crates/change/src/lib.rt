@@ -18,9 +18,9 @@ ghost use Rattle.rules.specs.Outcome.{outcome, outcome_by, may_of};
 ghost use Rattle.rules.specs.Known.{Known};
 ghost use Rattle.change.specs.Answers.{said_number, said_done};
 
-use arrayvec::ArrayVec;
 use judge::Judged;
 use layout::Ring;
+use layout::rack::Rack;
 use reason::Reason;
 use state::{Event, Held, Pin, State, UNFLUSHED};
 use walk::{ENTRIES, Entry};
@@ -79,10 +79,10 @@ pub fn report_known(
     s.flush = 0;
     let mut held = judged.held;
     if good {
-        state::report_all(held.as_mut_slice(), Event::Good);
+        held.change(|items| state::report_all(items, Event::Good));
         let_go(bytes, s, judged.ring, held.as_slice());
     } else {
-        state::report_all(held.as_mut_slice(), Event::Bad);
+        held.change(|items| state::report_all(items, Event::Bad));
         s.relist(held.as_slice());
     }
     Ok(())
@@ -117,7 +117,7 @@ fn may_write(s: &State, ring: Ring, node: u32, offset: u32, src: &[u8]) -> Resul
 }
 
 // Lists one write more, which takes the next number.
-fn add_write(s: &mut State, mut held: ArrayVec<Held, ENTRIES>, entry: Entry)
+fn add_write(s: &mut State, mut held: Rack<Held, ENTRIES>, entry: Entry)
     requires { (length held.items < most_entries) × (s.old.next < number_limit) }
     ensures { s.new ≡ with_next (with_held s.old (held.items ++ record { entry = entry; phase = unflushed } ∷ [])) (s.old.next + 1) }
 {

@@ -1,14 +1,12 @@
 -- From the code's tests, batch and sheet to the outcome of a flush start.
 use Rattle.std.specs.Prelude.{Option, None, Some}
 use Prim.Native.Nat.{ℕ, ◌+◌, ◌≤◌, ◌<◌}
-use Rattle.std.specs.List.{refill}
 use mathlib.Core.Path.{◌≡◌, refl, sym, ap, ◌∙◌}
 use mathlib.Core.Bool.{Bool, true, false}
 use mathlib.Core.List.{List, [], ◌∷◌, map}
 use native.Mathlib.Omega.{arith}
 use borrow.Author.Tests.{eq-eqb, ne_eqb, lt-ltb, le-ltb}
 use lib.ListN.{length, get_or, length-map, length-take}
-use lib.Seq.{take_at}
 use lib.Dec.{eqb, ltb}
 use Rattle.reason.specs.declared.Reason.TheVariants.{NodeZero, NoNumber, FlushUnderWay, BadBuffer}
 use Rattle.layout.specs.Sizes.{number_limit, most_entries}
@@ -76,10 +74,6 @@ module _ (r : List ℕ) (s : State) (j : Judged) (k : Known r s j) (node : ℕ) 
 
     pub taken_few : length hs' ≤ most_entries
     taken_few = let l = taken_long in let f = (sure r s j k).few in omega arith
-
-    -- the places that they are written back to are as many
-    pub taken_back : refill (length hs) hs hs' ≡ hs'
-    taken_back = take_at hs' _ (length hs) taken_long
 
   -- ---- the outcome, test by test
 

@@ -91,7 +91,7 @@ fn start_known(
         return Err(Reason::FlushUnderWay);
     }
     let Judged { ring, mut held } = judged;
-    let batch = take_batch(held.as_mut_slice(), node);
+    let batch = held.change(|items| take_batch(items, node));
     if batch.is_empty() {
         return Ok(None);
     }

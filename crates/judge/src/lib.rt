@@ -11,17 +11,17 @@ ghost use Rattle.state.specs.Lists.{pick, all, pairs, holding, phase_fits};
 ghost use Rattle.judge.specs.Fits.{listed_fits, is_in_flight, next_fits, pin_fits, pins_fit, phases_fit, pair_fits, head_stays, held_fits};
 ghost use Rattle.judge.specs.Answers.{judged_of};
 
-use arrayvec::ArrayVec;
 use layout::Ring;
+use layout::rack::Rack;
 use reason::Reason;
 use state::{FLUSHED, GONE, Held, IN_FLIGHT, Listed, Pin, State, UNFLUSHED};
 use walk::{ENTRIES, Entry, Walked};
 
 // A ring that can be read, and whose state fits it, with the held writes, oldest first.
-#[derive(Drop)]
+#[derive(Clone, Copy)]
 pub struct Judged {
     pub ring: Ring,
-    pub held: ArrayVec<Held, ENTRIES>,
+    pub held: Rack<Held, ENTRIES>,
 }
 
 // Whether a listed write has the ring's number, below the next, and is Unflushed, In flight or Flushed.
@@ -42,11 +42,11 @@ fn one_fits(listed: Listed, number: u64, next: u64) -> bool
 }
 
 // The entries beside their states.
-fn hold(entries: &[Entry], writes: &[Listed]) -> ArrayVec<Held, ENTRIES>
+fn hold(entries: &[Entry], writes: &[Listed]) -> Rack<Held, ENTRIES>
     requires { (length entries.now ≡ length writes.now) × (length entries.now ≤ most_entries) }
     ensures { result.items ≡ holding entries.now writes.now }
 {
-    let mut held = ArrayVec::new();
+    let mut held = Rack::new();
     for (entry, listed) in entries.iter().zip(writes) {
         held.push(Held {
             entry: *entry,

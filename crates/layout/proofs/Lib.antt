@@ -5,3 +5,4 @@ pub mod Numbers
 pub mod Puts
 pub mod Loops
 pub mod Turns
+pub mod Racks

@@ -8,6 +8,8 @@ ghost use Rattle.std.specs.Prelude.{◌≡◌, ◌+◌, ◌-◌, ◌*◌, ◌%�
 ghost use Rattle.layout.specs.Sizes.{header_size, fewest_slots, most_slots, span_of, slots_of};
 ghost use Rattle.layout.specs.Bytes.{Sized, flat, round, bytes_at, zeros_at, put};
 
+pub mod rack;
+
 // A ring as its header tells it.
 #[derive(Clone, Copy)]
 pub struct Ring {

@@ -8,9 +8,9 @@ ghost use Rattle.walk.specs.Walk.{write_of};
 ghost use Rattle.layout.specs.Bytes.{bytes4, bytes_at, round};
 ghost use Rattle.shore.specs.Cover.{spans};
 ghost use Rattle.sheet.specs.Sheet.{list_of, data_by, sheet_of, laid_at};
-ghost use Rattle.sheet.specs.Places.{Batch, Laid, Covered, AllCovered, byte_by, Painted, total, Steady, Ends, FoundAt, StartAt, StartFrom, key_at, key_by, overlies, grow, in_order, pieces_from, laid_if, made_from};
+ghost use Rattle.sheet.specs.Places.{Batch, Laid, Covered, AllCovered, byte_by, Painted, total, Steady, Ends, FoundAt, StartAt, StartFrom, key_at, key_by, overlies, grow, in_order, pieces_from, laid_if, made_from, no_piece};
 
-use arrayvec::ArrayVec;
+use layout::rack::{Blank, Rack};
 use layout::{Ring, Slots};
 use walk::Entry;
 
@@ -29,11 +29,19 @@ pub struct Piece {
 }
 
 // The pieces of a sheet, ascending, in room for as many as a batch can have: there is no heap.
-#[derive(Drop)]
+#[derive(Clone, Copy)]
 pub struct Pieces {
     // The bytes of all of them.
     pub size: usize,
-    pub list: ArrayVec<Piece, BATCH>,
+    pub list: Rack<Piece, BATCH>,
+}
+
+impl Blank for Piece {
+    ghost blank = { no_piece };
+
+    fn blank() -> Piece {
+        Piece::default()
+    }
 }
 
 // The newest write that covers a place, if one does; and a place up to which that stays so.
@@ -161,7 +169,7 @@ pub fn pieces_of(entries: &[Entry]) -> Pieces
 {
     let end = Ring::FILE_END as usize;
     let walker = Walker { entries };
-    let mut list = ArrayVec::new();
+    let mut list = Rack::new();
     let mut size = 0;
     let mut at = 0;
     while let Some(start) = walker.next_start(end, at) {
@@ -274,7 +282,8 @@ pub fn make_sheet(slots: &Slots, entries: &[Entry], node: u32, buffer: &mut [u8]
     ensures buffer { buffer.new ≡ laid_if buffer.old (sheet_of node (map (write_of (round slots.now.bytes.now slots.now.n)) entries.now)) }
 {
     let pieces = pieces_of(entries);
-    let length = 8 + 8 * pieces.list.len() + pieces.size;
+    let list = pieces.list.as_slice();
+    let length = 8 + 8 * list.len() + pieces.size;
     if buffer.len() < length {
         return None;
     }
@@ -282,6 +291,6 @@ pub fn make_sheet(slots: &Slots, entries: &[Entry], node: u32, buffer: &mut [u8]
         slots: *slots,
         entries,
     };
-    source.put_sheet(node, &pieces.list, buffer);
+    source.put_sheet(node, list, buffer);
     Some(length)
 }

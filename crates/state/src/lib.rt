@@ -14,6 +14,7 @@ ghost use Rattle.state.specs.Lists.{
   RisingTo,
   no_listed,
   entry_of,
+  no_held,
   listing,
   with_held,
   comes_back,
@@ -24,6 +25,7 @@ ghost use Rattle.state.specs.Pins.{reaches, keeps, is_due, leaving, slots_left, 
 ghost use Rattle.state.specs.Asks.{seeks, turn_of, ticket_done, later_end, cached_end};
 
 use layout::Ring;
+use layout::rack::Blank;
 use walk::Entry;
 
 // The four states of a write. They are numbers and no enum: C hands in any byte (`Listed`), the table has 9 for what can't happen, and
@@ -95,6 +97,14 @@ pub struct State {
 pub struct Held {
     pub entry: Entry,
     pub phase: u8,
+}
+
+impl Blank for Held {
+    ghost blank = { no_held };
+
+    fn blank() -> Held {
+        Held::default()
+    }
 }
 
 // What a search looks for.

@@ -19,7 +19,7 @@ ghost use Rattle.walk.specs.Walk.{
   unreadable,
 };
 
-use arrayvec::ArrayVec;
+use layout::rack::{Blank, Rack};
 use layout::{Ring, Slots};
 use reason::Reason;
 
@@ -54,10 +54,18 @@ pub struct Cursor {
 pub const ENTRIES: usize = Ring::ENTRIES;
 
 // A ring that can be read, with its entries, oldest first, in room for as many as a ring holds: there is no heap.
-#[derive(Drop)]
+#[derive(Clone, Copy)]
 pub struct Walked {
     pub ring: Ring,
-    pub entries: ArrayVec<Entry, ENTRIES>,
+    pub entries: Rack<Entry, ENTRIES>,
+}
+
+impl Blank for Entry {
+    ghost blank = { no_entry };
+
+    fn blank() -> Entry {
+        no_entry()
+    }
 }
 
 // The header, if the bytes have one and are as long as it says.
@@ -202,7 +210,7 @@ fn collect(bytes: &[u8], ring: Ring) -> Result<Walked, Reason>
     ensures { result ≡ answer_of (reads ring (walk (round bytes.now ring.n) ring.n (start ring))) }
 {
     let slots = Slots { bytes, n: ring.n };
-    let mut entries = ArrayVec::new();
+    let mut entries = Rack::new();
     let mut place = ring.head;
     let mut left = ring.used;
     let mut last = 0;
