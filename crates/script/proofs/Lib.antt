@@ -1,0 +1,3 @@
+-- Lemmas of the script's readers.
+pub mod Numbers
+pub mod Words
