@@ -2,4 +2,5 @@
 pub mod Within
 pub mod Digits
 pub mod Lines
+pub mod Spaces
 pub mod Laid

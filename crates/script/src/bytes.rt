@@ -1,6 +1,6 @@
 // BYTES and BYTE of a script: hex digits, and runs of one byte.
-ghost use Rattle.std.specs.Prelude.{◌≡◌, IfSome};
-ghost use Rattle.script.specs.Digits.{byte_of};
+ghost use Rattle.std.specs.Prelude.{◌↔◌, IsTrue, IfSome, IfNone, SomeIff};
+ghost use Rattle.script.specs.Digits.{byte_of, IsPair, ArePairs};
 ghost use Rattle.script.specs.Laid.{Spells};
 
 use crate::word;
@@ -16,7 +16,7 @@ pub enum Bytes<'a> {
 
 // A word that is one byte.
 pub fn one(word: &[u8]) -> Option<u8>
-    ensures { IfSome result (λ byte. byte ≡ byte_of word.now) }
+    ensures { SomeIff result (IsPair word.now) (byte_of word.now) }
 {
     let [high, low] = word else {
         return None;
@@ -26,9 +26,17 @@ pub fn one(word: &[u8]) -> Option<u8>
     Some((high * 16 + low) as u8)
 }
 
+// Whether a word is pairs of hex digits and nothing else.
+fn are_pairs(word: &[u8]) -> bool
+    ensures { IsTrue result ↔ ArePairs word.now }
+{
+    word.len() % 2 == 0 && word.iter().all(|digit| char::from(*digit).is_digit(16))
+}
+
 // The bytes that a word spells, if it spells bytes.
 pub fn bytes_of<'a>(word: &'a [u8]) -> Option<Bytes<'a>>
-    ensures { IfSome result (Spells word.now) }
+    ensures value { IfSome result (Spells word.now) }
+    ensures none { IfNone result ((bytes : Bytes) → ¬ Spells word.now bytes) }
 {
     match word {
         b"-" => Some(Bytes::Digits(b"")),
@@ -37,14 +45,12 @@ pub fn bytes_of<'a>(word: &'a [u8]) -> Option<Bytes<'a>>
             count: word::number(count)?,
         }),
         [] => None,
-        _ => {
-            let are_digits = word.chunks(2).all(|digits| one(digits).is_some());
-            are_digits.then_some(Bytes::Digits(word))
-        }
+        _ => are_pairs(word).then_some(Bytes::Digits(word)),
     }
 }
 
 impl<'a> Bytes<'a> {
+    ghost use Rattle.std.specs.Prelude.{◌≡◌};
     ghost use Rattle.script.specs.Laid.{count_of, Lays};
 
     // How many bytes they are.
@@ -64,8 +70,10 @@ impl<'a> Bytes<'a> {
         match self {
             Bytes::Run { byte, .. } => out.fill(*byte),
             Bytes::Digits(digits) => {
-                for (to, pair) in out.iter_mut().zip(digits.chunks_exact(2)) {
-                    *to = one(pair).unwrap_or(0);
+                // By place and not by `zip`, of which no promise says what was written.
+                for place in 0..out.len().min(digits.len() / 2) {
+                    let pair = &digits[place * 2..place * 2 + 2];
+                    out[place] = one(pair).unwrap_or(0);
                 }
             }
         }

@@ -1,7 +1,9 @@
 // Words of a line, which is split at each space, and the numbers that they are.
-ghost use Rattle.std.specs.Prelude.{◌≡◌, ◌≤◌, ◌<◌, length, All, IfSome};
+ghost use Rattle.std.specs.Prelude.{◌≡◌, ◌≢◌, ℕ, ◌+◌, ◌≤◌, ◌<◌, ◌^◌, length, slice_index, [], map, All, ◌⊎◌, IfSome, IfNone, SomeIff};
+ghost use Rattle.std.specs.List.{slice_split, Contains};
+ghost use Rattle.script.specs.Spaces.{is_space};
 ghost use Rattle.script.specs.Within.{Within};
-ghost use Rattle.script.specs.Digits.{spelled};
+ghost use Rattle.script.specs.Digits.{spelled, IsNumber};
 
 use arrayvec::ArrayVec;
 
@@ -11,7 +13,9 @@ pub const MOST: usize = 7;
 // Where the word ends that starts at a place: at the next space, or at the line's end.
 fn end_of(line: &[u8], from: usize) -> usize
     requires { from ≤ length line.now }
-    ensures { (from ≤ result) × (result ≤ length line.now) }
+    ensures within { (from ≤ result) × (result ≤ length line.now) }
+    ensures at_space { result < length line.now → slice_index line.now result ≡ 32 }
+    ensures first { (k : ℕ) → from + k < result → slice_index line.now (from + k) ≢ 32 }
 {
     match line[from..].iter().position(|byte| *byte == b' ') {
         Some(at) => from + at,
@@ -21,7 +25,9 @@ fn end_of(line: &[u8], from: usize) -> usize
 
 // The words of a line, if it has at most as many as a command has, and none of them is empty.
 pub fn words_of<'a>(line: &'a [u8]) -> Option<ArrayVec<&'a [u8], MOST>>
-    ensures { IfSome result (λ words. All (λ word. 0 < length word.now) words.items) }
+    ensures split { IfSome result (λ words. map (λ word. word.now) words.items ≡ slice_split is_space line.now) }
+    ensures none { IfNone result (Contains (slice_split is_space line.now) [] ⊎ (MOST < length (slice_split is_space line.now))) }
+    ensures not_empty { IfSome result (λ words. All (λ word. 0 < length word.now) words.items) }
 {
     let mut words = ArrayVec::new();
     let mut from = 0;
@@ -40,7 +46,7 @@ pub fn words_of<'a>(line: &'a [u8]) -> Option<ArrayVec<&'a [u8], MOST>>
 // A decimal number of at most so much.
 pub fn number_of(word: &[u8], most: u64) -> Option<u64>
     ensures within { Within most result }
-    ensures value { IfSome result (λ value. value ≡ spelled word.now) }
+    ensures value { SomeIff result (IsNumber word.now × (spelled word.now ≤ most)) (spelled word.now) }
 {
     if word.is_empty() {
         return None;
@@ -63,7 +69,8 @@ pub fn number_of(word: &[u8], most: u64) -> Option<u64>
 pub fn number<T: TryFrom<u64>>(word: &[u8]) -> Option<T>
 where
     T::Error: Drop,
-    ensures { IfSome result (λ value. T.try_from_gives (spelled word.now) (Ok value)) }
+    ensures value { IfSome result (λ value. IsNumber word.now × T.try_from_gives (spelled word.now) (Ok value)) }
+    ensures none { IfNone result (IsNumber word.now → spelled word.now < 2 ^ 64 → (error : T.Error) × T.try_from_gives (spelled word.now) (Err error)) }
 {
     T::try_from(number_of(word, u64::MAX)?).ok()
 }
