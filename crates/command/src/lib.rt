@@ -216,7 +216,7 @@ fn setting_of(words: &[&[u8]]) -> Option<Setting> {
 
 // What a line asks for, if it is a command.
 pub fn command_of<'a>(line: &'a [u8]) -> Option<Command<'a>> {
-    let words = word::words_of(line)?;
+    let words = word::words_of::<{ word::MOST }>(line)?;
     let command = match words.as_slice() {
         [b"poke", place, byte] => Command::Poke {
             place: word::number(place)?,

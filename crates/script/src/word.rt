@@ -23,10 +23,10 @@ fn end_of(line: &[u8], from: usize) -> usize
     }
 }
 
-// The words of a line, if it has at most as many as a command has, and none of them is empty.
-pub fn words_of<'a>(line: &'a [u8]) -> Option<ArrayVec<&'a [u8], MOST>>
+// The words of a line, if there is room for so many, and none of them is empty.
+pub fn words_of<'a, const ROOM: usize>(line: &'a [u8]) -> Option<ArrayVec<&'a [u8], ROOM>>
     ensures split { IfSome result (λ words. map (λ word. word.now) words.items ≡ slice_split is_space line.now) }
-    ensures none { IfNone result (Contains (slice_split is_space line.now) [] ⊎ (MOST < length (slice_split is_space line.now))) }
+    ensures none { IfNone result (Contains (slice_split is_space line.now) [] ⊎ (ROOM < length (slice_split is_space line.now))) }
     ensures not_empty { IfSome result (λ words. All (λ word. 0 < length word.now) words.items) }
 {
     let mut words = ArrayVec::new();

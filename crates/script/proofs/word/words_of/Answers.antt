@@ -5,7 +5,7 @@ use Rattle.script.proofs.Words.{each_some, one_more, the_last, went_well, went_i
 use Rattle.script.proofs.word.words_of.Goals as goal
 
 pub loop-from-preserved : goal.loop-from-preserved
-loop-from-preserved c =
+loop-from-preserved o c =
     let before = c.loop-from.invariant in
     let from = c.loop-from.from in
     let to = c.end_of-to.result in
@@ -22,7 +22,7 @@ loop-from-preserved c =
     }
 
 pub returns-then-to-from-clause-none : goal.returns-then-to-from-clause-none
-returns-then-to-from-clause-none c =
+returns-then-to-from-clause-none o c =
     let line = c.args.line.now in
     let l = c.loop-from in
     let ended = c.end_of-to.ensures in
@@ -30,7 +30,7 @@ returns-then-to-from-clause-none c =
     inl (an_empty line _ l.from (l.invariant.behind (omega arith)) (omega arith) at_space)
 
 pub returns-in_err-ok-clause-none : goal.returns-in_err-ok-clause-none
-returns-in_err-ok-clause-none c =
+returns-in_err-ok-clause-none o c =
     let l = c.loop-from in
     let full = went_ill _ c.in_err-ok.ensures.value c.try_push.ensures.full in
-    rw c.from_residual.ensures (inr (too_many c.args.line.now _ l.from (l.invariant.behind (omega arith)) 7 (length-map l.words.items _ ∙ full)))
+    rw c.from_residual.ensures (inr (too_many c.args.line.now _ l.from (l.invariant.behind (omega arith)) _ (length-map l.words.items _ ∙ full)))

@@ -5,7 +5,7 @@ use Rattle.script.specs.Spaces.{is_space}
 use Rattle.script.proofs.word.words_of.Given as goal
 
 abbrev pub invariant-loop-from : goal.invariant-loop-from
-invariant-loop-from l = record {
+invariant-loop-from o l = record {
   within : l.from ≤ length l.line + 1;
   behind : l.from ≤ length l.line → map (λ word. word.now) l.words.items ++ slice_split is_space (drop l.from l.line) ≡ slice_split is_space l.line;
   ended : length l.line < l.from → map (λ word. word.now) l.words.items ≡ slice_split is_space l.line;
@@ -13,4 +13,4 @@ invariant-loop-from l = record {
 }
 
 abbrev pub decreases-loop-from : goal.decreases-loop-from
-decreases-loop-from l = length l.line + 1 - l.from
+decreases-loop-from o l = length l.line + 1 - l.from
