@@ -30,7 +30,7 @@ pub fn one(word: &[u8]) -> Option<u8>
 fn are_pairs(word: &[u8]) -> bool
     ensures { IsTrue result ↔ ArePairs word.now }
 {
-    word.len() % 2 == 0 && word.iter().all(|digit| char::from(*digit).is_digit(16))
+    word.len() % 2 == 0 && word.iter().all(|digit| digit.is_ascii_hexdigit())
 }
 
 // The bytes that a word spells, if it spells bytes.
