@@ -28,6 +28,13 @@ total_order : (qs : List Piece) → total (in_order qs) ≡ total qs
 total_order [] = refl
 total_order (q ∷ qs) = ap total (reverse-append (q ∷ []) qs) ∙ total_append (in_order qs) (q ∷ []) ∙ let e = total_order qs in omega arith
 
+module _ (es : List Entry) (x : Pieces) (l : x ≡ pieces_from (in_order (grow (key_by es) file_end))) where
+  pub pieces_few : Batch es → length x.list.items ≤ most_batch
+  pieces_few b = let gs = grow (key_by es) file_end in rw l (omega (arith, length-reverse gs, few_pieces es b.most file_end, b.few))
+
+  pub pieces_small : x.size ≤ file_end
+  pieces_small = let gs = grow (key_by es) file_end in rw l (omega (arith, total_order gs, grow_total (key_by es) file_end))
+
 -- ---- four stores make a sheet
 
 pub laid_sheet : (d d₁ d₂ d₃ d₄ : List ℕ) (b : ℕ → ℕ) (node : ℕ) (qs : List Piece) → 8 + 8 * length qs + total qs ≤ length d
@@ -60,15 +67,9 @@ module _ (f : ℕ → ℕ) (es : List Entry) (b : Batch es) (node : ℕ) (x : Pi
       let w = ap length (sheet_writes f es b node) in
       rw (c, l) (omega arith)
 
-  pub pieces_few : length x.list.items ≤ most_batch
-  pieces_few = let gs = grow (key_by es) file_end in rw l (omega (arith, length-reverse gs, few_pieces es b.most file_end, b.few))
-
-  pub pieces_small : x.size ≤ file_end
-  pieces_small = let gs = grow (key_by es) file_end in rw l (omega (arith, total_order gs, grow_total (key_by es) file_end))
-
   -- so its length fits a number
   pub made_small : 8 + 8 * count + x.size ≤ 8 + 8 * most_batch + file_end
-  made_small = rw c (omega (arith, pieces_few, pieces_small))
+  made_small = rw c (omega (arith, pieces_few es x l b, pieces_small es x l))
 
   module _ (d : List ℕ) where
     pub made_short : length d < 8 + 8 * count + x.size → (None ≡ made_from (length d) sheet) × (d ≡ laid_if d sheet)
