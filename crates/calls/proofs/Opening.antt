@@ -13,6 +13,7 @@ use Rattle.layout.proofs.Tests.{never, sized_sound}
 use Rattle.walk.specs.declared.Entry.{Entry}
 use Rattle.walk.specs.declared.Walked.{Walked}
 use Rattle.layout.specs.Sizes.{most_entries}
+use Rattle.layout.specs.Rack.{items}
 use Rattle.walk.specs.Walk.{Rising, Reading, readable, unreadable, reading_of, answer_of}
 use Rattle.walk.proofs.Readings.{answer_refused}
 use Rattle.store.specs.Store.{slots_for, is_makeable, made, made_answer}
@@ -43,12 +44,12 @@ module _ (r : List ℕ) (s : State) where
   reopen_refused why e = refused_at why (reading_of r) refl e
 
   -- the walk's entries are es
-  module _ (w : Walked) (o : Ok w ≡ answer_of (reading_of r)) (es : List Entry) (h : es ≡ w.entries.items) where
+  module _ (w : Walked) (o : Ok w ≡ answer_of (reading_of r)) (es : List Entry) (h : es ≡ items w.entries) where
     pub walked : (length es ≤ most_entries) × Rising 0 es
     walked = rw h (walked_few r w o)
 
     pub reopen_done : outcome reopen_ring r s ≡ outcome_by (says ((reopened es).next ∷ [])) (reopened es) r
-    reopen_done = rw h (sym (reopens w.ring w.entries.items (read_entries (reading_of r) w o)))
+    reopen_done = rw h (sym (reopens w.ring (items w.entries) (read_entries (reading_of r) w o)))
 
 -- ---- make
 

@@ -8,6 +8,7 @@ use borrow.Author.Tests.{eq-eqb, ne_eqb}
 use lib.ListN.{length, set}
 use Rattle.reason.specs.declared.Reason.TheVariants.{NodeZero, NoNumber, TooManyPins}
 use Rattle.layout.specs.Sizes.{number_limit}
+use Rattle.layout.specs.Rack.{items}
 use Rattle.walk.specs.Walk.{readable, reading_of}
 use Rattle.state.specs.declared.State.{State}
 use Rattle.state.specs.declared.Held.{Held}
@@ -46,7 +47,7 @@ module _ (r : List ℕ) (s : State) (j : Judged) (o : Ok j ≡ judged_of (readin
   pub next_limit : s.next ≤ number_limit
   next_limit = (sure r s j k).next
 
-  module _ (hs : List Held) (h : hs ≡ j.held.items) where
+  module _ (hs : List Held) (h : hs ≡ items j.held) where
     pub below : RisingTo s.next 0 hs
     below = rw h (sure r s j k).below
 
@@ -66,13 +67,13 @@ module _ (r : List ℕ) (s : State) (j : Judged) (o : Ok j ≡ judged_of (readin
 
   -- ---- ask a ticket
 
-  pub ask_done : (ticket node : ℕ) (b : Bool) → (hs : List Held) → hs ≡ j.held.items → b ≡ ticket_done ticket node hs
+  pub ask_done : (ticket node : ℕ) (b : Bool) → (hs : List Held) → hs ≡ items j.held → b ≡ ticket_done ticket node hs
       → outcome_by (says (bit b ∷ [])) s r ≡ outcome (ask_ticket ticket node) r s
   ask_done ticket node b hs h e = sym (judge_passes (ask_ticket ticket node) (judges_ask ticket node) r s j k ∙ rw (own_ask r (readable j.ring k.entries) s ticket node, ← h, ← e))
 
   -- ---- whose turn
 
-  pub turn_done : (n : ℕ) (hs : List Held) → hs ≡ j.held.items → n ≡ turn_of hs → outcome_by (says (n ∷ [])) s r ≡ outcome ask_turn r s
+  pub turn_done : (n : ℕ) (hs : List Held) → hs ≡ items j.held → n ≡ turn_of hs → outcome_by (says (n ∷ [])) s r ≡ outcome ask_turn r s
   turn_done n hs h e = sym (judge_passes ask_turn judges_turn r s j k ∙ rw (own_turn r (readable j.ring k.entries) s, ← h, ← e))
 
   -- ---- cached end
@@ -80,7 +81,7 @@ module _ (r : List ℕ) (s : State) (j : Judged) (o : Ok j ≡ judged_of (readin
   pub end_zero : (node : ℕ) → node ≡ 0 → outcome_by (refuses NodeZero) s r ≡ outcome (ask_end node) r s
   end_zero node e = sym (judge_passes (ask_end node) (judges_end node) r s j k ∙ rw (own_end r (readable j.ring k.entries) s node, eq-eqb node 0 e))
 
-  pub end_done : (node n : ℕ) → (node ≡ 0 → ⊥) → (hs : List Held) → hs ≡ j.held.items → n ≡ cached_end node hs → outcome_by (says (n ∷ [])) s r ≡ outcome (ask_end node) r s
+  pub end_done : (node n : ℕ) → (node ≡ 0 → ⊥) → (hs : List Held) → hs ≡ items j.held → n ≡ cached_end node hs → outcome_by (says (n ∷ [])) s r ≡ outcome (ask_end node) r s
   end_done node n z hs h e = sym (judge_passes (ask_end node) (judges_end node) r s j k ∙ rw (own_end r (readable j.ring k.entries) s node, ne_eqb node 0 z, ← h, ← e))
 
   -- ---- pin
@@ -93,7 +94,7 @@ module _ (r : List ℕ) (s : State) (j : Judged) (o : Ok j ≡ judged_of (readin
     pin_number n =
         sym (judge_passes (pin node) (judges_pin node) r s j k ∙ rw (own_pin r (readable j.ring k.entries) s node, place_some s.pins 0 place e.0 e.1, eq-eqb s.next number_limit n))
 
-    pub pin_done_law : (s.next ≡ number_limit → ⊥) → (mark : ℕ) (hs : List Held) → hs ≡ j.held.items → mark ≡ mark_of node s.next hs
+    pub pin_done_law : (s.next ≡ number_limit → ⊥) → (mark : ℕ) (hs : List Held) → hs ≡ items j.held → mark ≡ mark_of node s.next hs
         → outcome_by (says (s.next ∷ [])) (with_next (with_pins s (set s.pins place (record { number = s.next; mark = mark; node = node }))) (s.next + 1)) r
         ≡ outcome (pin node) r s
     pin_done_law n mark hs h m =

@@ -12,6 +12,7 @@ use Rattle.reason.specs.declared.Reason.{Reason}
 use Rattle.reason.specs.declared.Reason.TheVariants.{NotTheFlush, NoSuchPin}
 use Rattle.layout.specs.Sizes.{most_entries}
 use Rattle.layout.specs.Bytes.{both}
+use Rattle.layout.specs.Rack.{items}
 use Rattle.walk.specs.declared.Entry.{Entry}
 use Rattle.walk.specs.Walk.{readable, slots_used}
 use Rattle.store.specs.Store.{stored, head_moved}
@@ -57,8 +58,8 @@ module _ (r : List ℕ) (s : State) (j : Judged) (k : Known r s j) where
 
     module _ (place : ℕ) (e : (place ≡ pin_place number s.pins) × (place < length s.pins)) where
       pub unpin_done : (number ≡ 0 → ⊥) → (t : State) (r' : List ℕ)
-          → t ≡ with_held (with_pins s (set s.pins place no_pin)) (staying (set s.pins place no_pin) j.held.items)
-          → r' ≡ head_moved r (slot_after j.ring (slots_left (set s.pins place no_pin) j.held.items))
+          → t ≡ with_held (with_pins s (set s.pins place no_pin)) (staying (set s.pins place no_pin) (items j.held))
+          → r' ≡ head_moved r (slot_after j.ring (slots_left (set s.pins place no_pin) (items j.held)))
           → outcome_by (says []) t r' ≡ outcome (unpin number) r s
       unpin_done n t r' et er =
           let o : both (ltb 0 number) (has_pin number s.pins) ≡ true = both_intro _ _ (lt-ltb 0 number (omega (arith, n))) (place_some s.pins number place e.0 e.1) in
@@ -80,21 +81,21 @@ module _ (r : List ℕ) (s : State) (j : Judged) (k : Known r s j) where
     is_flush z e = both_intro _ _ (lt-ltb 0 s.flush (omega (arith, z))) (eq-eqb number s.flush e)
 
   -- the held writes after a report
-  module _ (event : ℕ) (v : Event event) (moved : List Held) (e : moved ≡ map (reported event) j.held.items) where
+  module _ (event : ℕ) (v : Event event) (moved : List Held) (e : moved ≡ map (reported event) (items j.held)) where
     pub moved_few : length moved ≤ most_entries
     moved_few =
         let o = sure r s j k in
         let f = o.few in
-        let n : length moved ≡ length j.held.items = ap length e ∙ length-map j.held.items (reported event) in
+        let n : length moved ≡ length (items j.held) = ap length e ∙ length-map (items j.held) (reported event) in
         omega arith
 
     pub moved_fits : all phase_fits moved ≡ true
-    moved_fits = ap (all phase_fits) e ∙ report_fits event v j.held.items (sure r s j k).phases
+    moved_fits = ap (all phase_fits) e ∙ report_fits event v (items j.held) (sure r s j k).phases
 
     pub moved_slots : slots_used (map entry_of moved) ≤ most_entries
     moved_slots =
-        let a : slots_used (map entry_of moved) ≡ slots_used (map entry_of j.held.items) =
-        ap (λ hs. slots_used (map entry_of hs)) e ∙ ap slots_used (report_entries event j.held.items) in
+        let a : slots_used (map entry_of moved) ≡ slots_used (map entry_of (items j.held)) =
+        ap (λ hs. slots_used (map entry_of hs)) e ∙ ap slots_used (report_entries event (items j.held)) in
         let o = sure r s j k in
         let u = o.slots in
         let f = o.free in
@@ -102,14 +103,14 @@ module _ (r : List ℕ) (s : State) (j : Judged) (k : Known r s j) where
         omega arith
 
   module _ (number : ℕ) (z : s.flush ≡ 0 → ⊥) (q : number ≡ s.flush) (moved : List Held) (t : State) (r' : List ℕ) where
-    pub report_good : moved ≡ map (reported good) j.held.items
+    pub report_good : moved ≡ map (reported good) (items j.held)
         → t ≡ with_held (with_flush s 0) (staying s.pins moved)
         → r' ≡ head_moved r (slot_after j.ring (slots_left s.pins moved))
         → outcome_by (says []) t r' ≡ outcome (report number true) r s
     report_good e et er =
         sym (judge_passes (report number true) (judges_report number true) r s j k ∙ rw (own_report r (readable j.ring k.entries) s number true, is_flush number true z q, et, er, e))
 
-    pub report_bad : moved ≡ map (reported bad) j.held.items
+    pub report_bad : moved ≡ map (reported bad) (items j.held)
         → t ≡ with_held (with_flush s 0) moved → outcome_by (says []) t r ≡ outcome (report number false) r s
     report_bad e et =
         sym (judge_passes (report number false) (judges_report number false) r s j k ∙ rw (own_report r (readable j.ring k.entries) s number false, is_flush number false z q, et, e))
@@ -135,7 +136,7 @@ module _ (r : List ℕ) (s : State) (j : Judged) (k : Known r s j) where
       writable = writes_when j.ring s node offset bs goes
 
       pub write_done_law : (x : Entry) (s' : State) (r' : List ℕ) → x ≡ new_entry j.ring s.next (write node handle offset bs)
-          → s' ≡ with_next (with_held s (j.held.items ++ record { entry = x; phase = unflushed } ∷ [])) (s.next + 1)
+          → s' ≡ with_next (with_held s (items j.held ++ record { entry = x; phase = unflushed } ∷ [])) (s.next + 1)
           → r' ≡ stored r j.ring.n x bs → outcome_by (says (s.next ∷ [])) s' r' ≡ outcome (write node handle offset bs) r s
       write_done_law x s' r' ex et er =
           sym (judge_passes (write node handle offset bs) (judges_write node handle offset bs) r s j k ∙ rw (same ∙ goes, et, er, ex))

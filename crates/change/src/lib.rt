@@ -7,6 +7,7 @@
 ghost use Rattle.std.specs.Prelude.{◌≡◌, ◌∷◌, [], ◌++◌, map, true, ◌+◌, ◌≤◌, ◌<◌, length};
 ghost use Rattle.layout.specs.Sizes.{most_entries, number_limit};
 ghost use Rattle.layout.specs.Bytes.{Sized};
+ghost use Rattle.layout.specs.Rack.{items};
 ghost use Rattle.walk.specs.Walk.{readable, slots_used};
 ghost use Rattle.store.specs.Store.{head_moved};
 ghost use Rattle.ring.specs.Ring.{slot_after};
@@ -118,8 +119,8 @@ fn may_write(s: &State, ring: Ring, node: u32, offset: u32, src: &[u8]) -> Resul
 
 // Lists one write more, which takes the next number.
 fn add_write(s: &mut State, mut held: Rack<Held, ENTRIES>, entry: Entry)
-    requires { (length held.items < most_entries) × (s.old.next < number_limit) }
-    ensures { s.new ≡ with_next (with_held s.old (held.items ++ record { entry = entry; phase = unflushed } ∷ [])) (s.old.next + 1) }
+    requires { (length (items held) < most_entries) × (s.old.next < number_limit) }
+    ensures { s.new ≡ with_next (with_held s.old (items held ++ record { entry = entry; phase = unflushed } ∷ [])) (s.old.next + 1) }
 {
     held.push(Held {
         entry,

@@ -6,6 +6,7 @@ use mathlib.Core.List.{List, [], ◌∷◌}
 use lib.ListN.{length}
 use Rattle.reason.specs.declared.Reason.{Reason}
 use Rattle.layout.specs.Sizes.{file_end}
+use Rattle.layout.specs.Rack.{items}
 use Rattle.walk.specs.Walk.{readable, unreadable}
 use Rattle.state.specs.declared.State.{State}
 use Rattle.state.specs.Asks.{cached_end}
@@ -38,9 +39,9 @@ module _ (r : List ℕ) (s : State) (j : Judged) (k : Known r s j) (pin node off
     pub fits : (offset + length b ≤ file_end) × (fetched ≤ length b)
     fits = fillable s pin node offset fetched b goes
 
-    pub fill_done_law : (end n : ℕ) (b' : List ℕ) → end ≡ cached_end node j.held.items → n ≡ fill_count (length b) fetched offset end
-        → b' ≡ filled (writes_for node r j.ring j.held.items) offset fetched n b → lent_by (says (n ∷ [])) s r b' ≡ outcome (fill_read pin node offset fetched b) r s
+    pub fill_done_law : (end n : ℕ) (b' : List ℕ) → end ≡ cached_end node (items j.held) → n ≡ fill_count (length b) fetched offset end
+        → b' ≡ filled (writes_for node r j.ring (items j.held)) offset fetched n b → lent_by (says (n ∷ [])) s r b' ≡ outcome (fill_read pin node offset fetched b) r s
     fill_done_law end n b' ee en eb =
-        let z : n ≡ fill_count (length b) fetched offset (cached_end node j.held.items) = en ∙ ap (fill_count (length b) fetched offset) ee in
+        let z : n ≡ fill_count (length b) fetched offset (cached_end node (items j.held)) = en ∙ ap (fill_count (length b) fetched offset) ee in
         sym (judge_passes (fill_read pin node offset fetched b) (judges_fill pin node offset fetched b) r s j k
         ∙ rw (own_same s pin node offset fetched b r (readable j.ring k.entries) ∙ goes, eb, ← z))

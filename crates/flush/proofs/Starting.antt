@@ -11,6 +11,7 @@ use lib.Dec.{eqb, ltb}
 use Rattle.reason.specs.declared.Reason.TheVariants.{NodeZero, NoNumber, FlushUnderWay, BadBuffer}
 use Rattle.layout.specs.Sizes.{number_limit, most_entries}
 use Rattle.layout.specs.Bytes.{both, round}
+use Rattle.layout.specs.Rack.{items}
 use Rattle.layout.proofs.Tests.{never}
 use Rattle.walk.specs.declared.Entry.{Entry}
 use Rattle.walk.specs.Walk.{readable, no_entry, write_of}
@@ -40,7 +41,7 @@ judges_start node b = record { reads = refl; fits = refl }
 
 module _ (r : List ℕ) (s : State) (j : Judged) (k : Known r s j) (node : ℕ) where
   abbrev hs : List Held
-  hs = j.held.items
+  hs = items j.held
 
   module _ (es : List Entry) (e : es ≡ map entry_of (batch_of node hs)) where
     batch_counted : length es ≡ length (batch_of node hs)

@@ -9,16 +9,18 @@ use borrow.Author.Tests.{eqb-true, eq-eqb}
 use lib.ListN.{length}
 use lib.Dec.{eqb}
 use Rattle.layout.specs.Sizes.{most_entries}
+use Rattle.layout.specs.Rack.{items, rack_of}
 use Rattle.layout.specs.declared.Ring.{Ring}
+use Rattle.layout.proofs.Racks.{items_of}
 use Rattle.layout.proofs.Tests.{both_left, both_right, not_true_false, true_not_false, never}
 use Rattle.reason.specs.declared.Reason.{Reason}
 use Rattle.reason.specs.declared.Reason.TheVariants.{StateUnfit}
 use Rattle.walk.specs.declared.Entry.{Entry}
-use Rattle.walk.specs.Walk.{Rising, Reading, readable, unreadable, answer_of, reading_of}
+use Rattle.walk.specs.Walk.{Rising, Reading, readable, unreadable, answer_of, reading_of, no_entry}
 use Rattle.walk.specs.declared.Walked.{Walked}
 use Rattle.walk.proofs.Readings.{answer_refused, reading_sound, entries_few, entries_rise}
 use Rattle.state.specs.declared.State.{State}
-use Rattle.state.specs.Lists.{holding, listed}
+use Rattle.state.specs.Lists.{holding, listed, no_held}
 use Rattle.state.proofs.Bools.{both_intro}
 use Rattle.judge.specs.Fits.{listed_fits, list_fits, next_fits, pins_fit, held_fits, fits}
 use Rattle.judge.specs.declared.Judged.{Judged}
@@ -74,7 +76,7 @@ module _ (es : List Entry) (s : State) where
   pub unfit_held : held_fits s (holding es (listed s)) ≡ false → fits es s ≡ false
   unfit_held k = not_fit (λ o. true_not_false _ o.held k)
 
-  pub judge_fits : (g : Ring) (j : Judged) → fits es s ≡ true → j.ring ≡ g → j.held.items ≡ holding es (listed s) → Ok j ≡ judged_of (readable g es) s
+  pub judge_fits : (g : Ring) (j : Judged) → fits es s ≡ true → j.ring ≡ g → j.held ≡ rack_of no_held (holding es (listed s)) → Ok j ≡ judged_of (readable g es) s
   judge_fits g j q a b = rw (q, ← a, ← b)
 
 -- what the code finds of the entries, tests one after the other
@@ -87,17 +89,17 @@ ok_same x y e = cc
 
 -- ---- from the walk's answer to the reading
 
-pub read_entries : (x : Reading) (w : Walked) → Ok w ≡ answer_of x → x ≡ readable w.ring w.entries.items
+pub read_entries : (x : Reading) (w : Walked) → Ok w ≡ answer_of x → x ≡ readable w.ring (items w.entries)
 read_entries unreadable w e = never (cc)
 read_entries (readable g es) w e =
-    let q : record { ring = g; entries = record { items = es } } ≡ w = ok_same _ _ (sym e) in
-    ap (λ (v : Walked). readable v.ring v.entries.items) q
+    let q : record { ring = g; entries = rack_of no_entry es } ≡ w = ok_same _ _ (sym e) in
+    ap (readable g) (sym (items_of most_entries no_entry es)) ∙ ap (λ (v : Walked). readable v.ring (items v.entries)) q
 
 pub read_refused : (x : Reading) (why : Reason) (s : State) → Err why ≡ answer_of x → Err why ≡ judged_of x s
 read_refused unreadable why s e = rw (answer_refused unreadable why (sym e)).1 refl
 read_refused (readable g es) why s e = never (cc)
 
-pub walked_few : (r : List ℕ) (w : Walked) → Ok w ≡ answer_of (reading_of r) → (length w.entries.items ≤ most_entries) × Rising 0 w.entries.items
+pub walked_few : (r : List ℕ) (w : Walked) → Ok w ≡ answer_of (reading_of r) → (length (items w.entries) ≤ most_entries) × Rising 0 (items w.entries)
 walked_few r w e =
-    let k = reading_sound r w.ring w.entries.items (read_entries (reading_of r) w e) in
+    let k = reading_sound r w.ring (items w.entries) (read_entries (reading_of r) w e) in
     (entries_few k, entries_rise k)

@@ -2,9 +2,10 @@
 use Rattle.std.specs.Prelude.{Result, Ok, Err}
 use Rattle.reason.specs.declared.Reason.{Reason}
 use Rattle.reason.specs.declared.Reason.TheVariants.{Unreadable, StateUnfit}
+use Rattle.layout.specs.Rack.{rack_of}
 use Rattle.walk.specs.Walk.{Reading, readable, unreadable}
 use Rattle.state.specs.declared.State.{State}
-use Rattle.state.specs.Lists.{pick, listed, holding}
+use Rattle.state.specs.Lists.{pick, listed, holding, no_held}
 use Rattle.judge.specs.declared.Judged.{Judged}
 use Rattle.judge.specs.Fits.{fits}
 
@@ -12,5 +13,5 @@ abbrev pub judged_of : Reading → State → Result Judged Reason
 judged_of unreadable s = Err Unreadable
 judged_of (readable g es) s =
     pick (fits es s)
-    (Ok (record { ring = g; held = record { items = holding es (listed s) } }))
+    (Ok (record { ring = g; held = rack_of no_held (holding es (listed s)) }))
     (Err StateUnfit)

@@ -6,8 +6,9 @@ ghost use Rattle.std.specs.Prelude.{◌≡◌, true, false, not, ◌≤◌, ◌<
 ghost use Rattle.std.specs.List.{list_all, list_any, zip};
 ghost use Rattle.layout.specs.Sizes.{most_entries};
 ghost use Rattle.layout.specs.Bytes.{both};
+ghost use Rattle.layout.specs.Rack.{items, IsTidy};
 ghost use Rattle.walk.specs.Walk.{readable, reading_of};
-ghost use Rattle.state.specs.Lists.{pick, all, pairs, holding, phase_fits};
+ghost use Rattle.state.specs.Lists.{pick, all, pairs, holding, phase_fits, no_held};
 ghost use Rattle.judge.specs.Fits.{listed_fits, is_in_flight, next_fits, pin_fits, pins_fit, phases_fit, pair_fits, head_stays, held_fits};
 ghost use Rattle.judge.specs.Answers.{judged_of};
 
@@ -44,7 +45,8 @@ fn one_fits(listed: Listed, number: u64, next: u64) -> bool
 // The entries beside their states.
 fn hold(entries: &[Entry], writes: &[Listed]) -> Rack<Held, ENTRIES>
     requires { (length entries.now ≡ length writes.now) × (length entries.now ≤ most_entries) }
-    ensures { result.items ≡ holding entries.now writes.now }
+    ensures items { items result ≡ holding entries.now writes.now }
+    ensures tidy { IsTidy no_held result }
 {
     let mut held = Rack::new();
     for (entry, listed) in entries.iter().zip(writes) {
@@ -190,7 +192,7 @@ fn next_fits(next: u64, flush: u64) -> bool
 
 // The judge of a ring that is readable: the entries are held beside their states, and then judged.
 fn judge_walked(walked: &Walked, s: &State) -> Result<Judged, Reason>
-    ensures { result ≡ judged_of (readable walked.now.ring walked.now.entries.items) s.now }
+    ensures { result ≡ judged_of (readable walked.now.ring (items walked.now.entries)) s.now }
 {
     let entries = walked.entries.as_slice();
     if s.count != entries.len() {

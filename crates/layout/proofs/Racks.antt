@@ -1,28 +1,56 @@
--- A rack's places: behind the items stand blanks, one fewer after each push.
-use Prim.Native.Nat.{ℕ, ◌+◌, ◌-◌, ◌≤◌, ◌<◌}
+-- Racks: the items of a list's rack are that list, and a rack that is the rack of its items stays so.
+use Prim.Native.Nat.{ℕ, suc, ◌+◌, ◌-◌, ◌<◌, min}
 use mathlib.Core.Path.{◌≡◌, sym, ap, ◌∙◌}
-use mathlib.Core.List.{List}
+use mathlib.Core.List.{List, [], ◌∷◌, ◌++◌, append_assoc}
 use native.Mathlib.Omega.{arith}
-use lib.ListN.{length, set, take, drop, replicate, length-set}
-use Rattle.std.proofs.lemmas.List.{drop_more, drop-set-lt, drop-replicate, length-take-le}
-use Rattle.layout.specs.Rack.{Rack}
+use lib.ListN.{length, set, drop, replicate, length-append, length-replicate}
+use Rattle.std.proofs.Math.Seq.{take-append_seam, drop-append_seam, set-append_seam}
+use Rattle.layout.specs.Rack.{items, rack_of, IsTidy}
+use Rattle.layout.specs.declared.rack.Rack.{Rack}
 
-module _ {X : Type 0} (places : List X) (count room : ℕ) (blank item : X) where
-  -- an item in the first blank's place leaves the blanks behind it
-  blanks_left : count < length places → drop count places ≡ replicate (room - count) blank
-      → drop (count + 1) (set places count item) ≡ replicate (room - (count + 1)) blank
-  blanks_left within behind =
-      let fewer : (room - count) - 1 ≡ room - (count + 1) = omega arith in
-      drop-set-lt (count + 1) places count item (omega arith)
-      ∙ ap (drop 1) (sym (drop_more places count blank within) ∙ behind)
-      ∙ drop-replicate 1 (room - count) blank
-      ∙ ap (λ n. replicate n blank) fewer
+module _ {X : Type 0} (room : ℕ) (blank : X) where
+  -- the items of a list's rack are the list
+  pub items_of : (xs : List X) → items {room = room} (rack_of blank xs) ≡ xs
+  unfolding items rack_of
+  items_of xs = take-append_seam xs _
 
-  -- so a rack with room is one again
-  pub pushed : (seen : Rack X) → record { items = take count places } ≡ seen → length seen.items < room
-      → (count ≤ room) × (length places ≡ room) × (drop count places ≡ replicate (room - count) blank)
-      → (count + 1 ≤ room) × (length (set places count item) ≡ room) × (drop (count + 1) (set places count item) ≡ replicate (room - (count + 1)) blank)
-  pushed seen view few holds =
-      let many : count ≡ length seen.items =
-      sym (length-take-le count places (omega (arith, holds.0, holds.1))) ∙ ap (λ (r : Rack X). length r.items) view in
-      (omega arith, length-set places count item ∙ holds.1, blanks_left (omega (arith, many, few, holds.1)) holds.2)
+  pub tidy_of : (xs : List X) → IsTidy {room = room} blank (rack_of blank xs)
+  tidy_of xs = ap (rack_of blank) (sym (items_of xs))
+
+  -- blanks behind a list make a rack tidy
+  tidy_by : (xs places : List X) (count : ℕ) → places ≡ xs ++ replicate (room - length xs) blank → count ≡ length xs
+      → IsTidy {room = room} blank (record { places = places; count = count })
+  unfolding rack_of
+  tidy_by xs places count p n = rw (p, n) (tidy_of xs)
+
+  module _ (r : Rack X room) (tidy : IsTidy blank r) where
+    tidy_places : r.places ≡ items r ++ replicate (room - length (items r)) blank
+    unfolding rack_of
+    tidy_places = ap (λ (q : Rack X room). q.places) tidy
+
+    tidy_count : r.count ≡ length (items r)
+    unfolding rack_of
+    tidy_count = ap (λ (q : Rack X room). q.count) tidy
+
+    -- one more item takes a blank's place
+    pub tidy_push : (x : X) → length (items r) < room → IsTidy {room = room} blank (record { places = set r.places r.count x; count = r.count + 1 })
+    tidy_push x few =
+        let xs = items r in
+        let left : room - length xs ≡ suc (room - length (xs ++ x ∷ [])) = omega (arith, few, length-append xs (x ∷ [])) in
+        tidy_by (xs ++ x ∷ []) _ _
+        (ap (λ ps. set ps r.count x) (tidy_places ∙ ap (λ n. xs ++ replicate n blank) left)
+        ∙ ap (λ i. set (xs ++ blank ∷ replicate (room - length (xs ++ x ∷ [])) blank) i x) tidy_count
+        ∙ set-append_seam xs blank _ x
+        ∙ sym (append_assoc xs (x ∷ []) _))
+        (omega (arith, tidy_count, length-append xs (x ∷ [])))
+
+    -- a change of the items, as many as they are, leaves the blanks behind them
+    pub tidy_change : length r.places ≡ room → (n : ℕ) → n ≡ min r.count room → (xs : List X) → length xs ≡ n
+        → IsTidy {room = room} blank (record { places = xs ++ drop n r.places; count = r.count })
+    tidy_change long n few xs same =
+        let room_is : room ≡ length (items r) + (room - length (items r)) =
+        sym long ∙ ap length tidy_places ∙ length-append (items r) _ ∙ ap (λ i. length (items r) + i) (length-replicate _ blank) in
+        let all : n ≡ length (items r) = omega (arith, few, tidy_count, room_is) in
+        let behind : drop n r.places ≡ replicate (room - length (items r)) blank =
+        ap (λ i. drop i r.places) all ∙ ap (drop (length (items r))) tidy_places ∙ drop-append_seam (items r) _ in
+        tidy_by xs _ _ (ap (λ ys. xs ++ ys) (behind ∙ ap (λ i. replicate (room - i) blank) (sym (same ∙ all)))) (tidy_count ∙ sym (same ∙ all))

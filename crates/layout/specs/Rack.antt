@@ -1,11 +1,15 @@
--- What a contract sees of a `Rack`: a list. Its room and the places that aren't in use are left out.
-use Rattle.std.specs.Prelude.{List, refl}
-use Rattle.std.specs.Coded.{Coded, code_by, coded_list}
+-- A rack's items, and the rack that holds a list and nothing else.
+use Rattle.std.specs.Prelude.{ℕ, ◌≡◌, ◌-◌, List, length, take, replicate, ◌++◌}
+use Rattle.layout.specs.declared.rack.Rack.{Rack}
 
--- the items, in order
-pub record Rack (T : Type 0) : Type 0 where
-  pub items : List T
+-- as many of the places as are in use
+unfoldable pub items : {T : Type 0} {room : ℕ} → Rack T room → List T
+items r = take r.count r.places
 
--- a rack is stored as the list of its items
-abbrev pub rack_code : {T : Type 0} → Coded T → Coded (Rack T)
-rack_code {T} code = code_by (List T) (coded_list code) (λ r. r.items) (λ xs. record { items = xs }) (λ _. refl)
+-- the rack of a list: blanks stand behind the items
+unfoldable pub rack_of : {T : Type 0} {room : ℕ} → T → List T → Rack T room
+rack_of {T} {room} blank xs = record { places = xs ++ replicate (room - length xs) blank; count = length xs }
+
+-- a rack that is the rack of its items
+abbrev pub IsTidy : {T : Type 0} {room : ℕ} → T → Rack T room → Type 0
+IsTidy blank r = r ≡ rack_of blank (items r)

@@ -6,13 +6,16 @@ use mathlib.Core.Bool.{Bool, true, false}
 use mathlib.Core.List.{List, [], ◌∷◌}
 use Rattle.reason.specs.declared.Reason.{Reason}
 use Rattle.reason.specs.declared.Reason.TheVariants.{Unreadable, StateUnfit}
+use Rattle.layout.specs.Sizes.{most_entries}
 use Rattle.layout.specs.Bytes.{both}
+use Rattle.layout.specs.Rack.{items, rack_of}
 use Rattle.layout.specs.declared.Ring.{Ring}
+use Rattle.layout.proofs.Racks.{items_of}
 use Rattle.layout.proofs.Tests.{never}
 use Rattle.walk.specs.declared.Entry.{Entry}
 use Rattle.walk.specs.Walk.{Reading, readable, unreadable, reading_of}
 use Rattle.state.specs.declared.State.{State}
-use Rattle.state.specs.Lists.{holding, listed}
+use Rattle.state.specs.Lists.{holding, listed, no_held}
 use Rattle.judge.specs.declared.Judged.{Judged}
 use Rattle.judge.specs.Fits.{fits}
 use Rattle.judge.specs.Answers.{judged_of}
@@ -30,13 +33,13 @@ pub record Judges (c : Call) : Type 0 where
 -- ---- what the judge says
 
 module _ (r : List ℕ) (s : State) where
-  known_yes : (g : Ring) (es : List Entry) → reading_of r ≡ readable g es → fits es s ≡ true → Known r s (record { ring = g; held = record { items = holding es (listed s) } })
-  known_yes g es q f = record { entries = es; reading = q; fit = f; held = refl }
+  known_yes : (g : Ring) (es : List Entry) → reading_of r ≡ readable g es → fits es s ≡ true → Known r s (record { ring = g; held = rack_of no_held (holding es (listed s)) })
+  known_yes g es q f = record { entries = es; reading = q; fit = f; held = items_of most_entries no_held (holding es (listed s)) }
 
   module _ (j : Judged) where
     known_by : (h : Ring) (es : List Entry) (b : Bool) → reading_of r ≡ readable h es → fits es s ≡ b → Ok j ≡ judged_of (readable h es) s → Known r s j
     known_by h es true q f e =
-        let w : record { ring = h; held = record { items = holding es (listed s) } } ≡ j = ok_same _ _ (sym (rw f at e)) in
+        let w : record { ring = h; held = rack_of no_held (holding es (listed s)) } ≡ j = ok_same _ _ (sym (rw f at e)) in
         rw (← w) (known_yes h es q f)
     known_by h es false q f e = never (let w : ◌≡◌ {A = Result Judged Reason} (Ok j) (Err StateUnfit) = (rw f at e) in cc)
 
@@ -63,7 +66,7 @@ module _ (c : Call) (o : Judges c) (r : List ℕ) (s : State) where
 
   refused_by : (why : Reason) (h : Ring) (es : List Entry) (b : Bool) → reading_of r ≡ readable h es → fits es s ≡ b
       → Err why ≡ judged_of (readable h es) s → refusal_of c r s ≡ Some why
-  refused_by why h es true q f e = never (let w : ◌≡◌ {A = Result Judged Reason} (Err why) (Ok (record { ring = h; held = record { items = holding es (listed s) } })) = (rw f at e) in cc)
+  refused_by why h es true q f e = never (let w : ◌≡◌ {A = Result Judged Reason} (Err why) (Ok (record { ring = h; held = rack_of no_held (holding es (listed s)) })) = (rw f at e) in cc)
   refused_by why h es false q f e = unfit_refused h es q f ∙ ap Some (same_reason _ _ (sym (rw f at e)))
 
   refused_at : (why : Reason) (x : Reading) → reading_of r ≡ x → Err why ≡ judged_of x s → refusal_of c r s ≡ Some why
@@ -84,6 +87,6 @@ module _ (c : Call) (o : Judges c) (r : List ℕ) (s : State) (j : Judged) (k : 
   unfolding refusal_of both
   passes = rw (k.reading, o.reads, o.fits, k.fit)
 
-  pub judge_passes : outcome c r s ≡ unless (own c r (readable j.ring k.entries) s) r s c.buffer (done_by c.kind c j.ring k.entries j.held.items r s)
+  pub judge_passes : outcome c r s ≡ unless (own c r (readable j.ring k.entries) s) r s c.buffer (done_by c.kind c j.ring k.entries (items j.held) r s)
   unfolding outcome
   judge_passes = rw (passes, k.reading, k.held)

@@ -12,6 +12,7 @@ use Rattle.reason.specs.declared.Reason.{Reason}
 use Rattle.reason.specs.declared.Reason.TheVariants.{NodeZero, BadLength, PastFileEnd, NoRoom, NoNumber, FlushUnderWay, NotTheFlush, NoSuchPin, TooManyPins, BadBuffer}
 use Rattle.layout.specs.Sizes.{most_entries, number_limit, largest, file_end, slots_of}
 use Rattle.layout.specs.Bytes.{both, Sized}
+use Rattle.layout.specs.Rack.{items}
 use Rattle.layout.specs.declared.Ring.{Ring}
 use Rattle.layout.proofs.Tests.{never, both_left, both_right}
 use Rattle.walk.specs.Walk.{Reading, readable, slots_used}
@@ -157,7 +158,7 @@ holding_inside n [] ws o = tt
 holding_inside n (e ∷ es) [] o = tt
 holding_inside n (e ∷ es) (w ∷ ws) o = (o.0, holding_inside n es ws o.1)
 
-pub sure : (r : List ℕ) (s : State) (j : Judged) → Known r s j → Sure r s j.ring (length j.held.items) j.held.items
+pub sure : (r : List ℕ) (s : State) (j : Judged) → Known r s j → Sure r s j.ring (length (items j.held)) (items j.held)
 sure r s j k =
     let es = k.entries in
     let f = readable_facts r j.ring es k.reading in

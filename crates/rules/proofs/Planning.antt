@@ -7,6 +7,7 @@ use mathlib.Core.List.{List, [], ◌∷◌, map}
 use native.Mathlib.Omega.{arith}
 use native.Mathlib.Nat.{mod-lt}
 use lib.ListN.{length, take}
+use Rattle.layout.specs.Rack.{items}
 use Rattle.reason.specs.declared.Reason.{Reason}
 use Rattle.reason.specs.declared.Reason.TheVariants.{Unreadable, StateUnfit}
 use Rattle.layout.specs.declared.Ring.{Ring}
@@ -55,8 +56,8 @@ module _ (c : Call) (o : Judges c) (r : List ℕ) (s : State) where
 
 module _ (c : Call) (o : Judges c) (r : List ℕ) (s : State) (j : Judged) (k : Known r s j) where
   pub plan_passes : planned c r s
-      ≡ (let out = unless (own c r (readable j.ring k.entries) s) r s c.buffer (done_by c.kind c j.ring k.entries j.held.items r s) in
-      planned_by out.said out.state (unless_no (own c r (readable j.ring k.entries) s) (plan_by c.kind c j.ring j.held.items s)))
+      ≡ (let out = unless (own c r (readable j.ring k.entries) s) r s c.buffer (done_by c.kind c j.ring k.entries (items j.held) r s) in
+      planned_by out.said out.state (unless_no (own c r (readable j.ring k.entries) s) (plan_by c.kind c j.ring (items j.held) s)))
   unfolding outcome plan_of
   plan_passes = rw (passes c o r s j k, k.reading, k.held)
 

@@ -8,10 +8,12 @@ use Rattle.std.proofs.lemmas.List.{length-reverse, reverse-append}
 use Rattle.walk.specs.declared.Entry.{Entry}
 use Rattle.state.specs.Batch.{most_batch}
 use Rattle.std.specs.Prelude.{Option, Some, None}
+use Rattle.layout.specs.Rack.{rack_of}
 use Rattle.sheet.specs.declared.Piece.{Piece}
+use Rattle.sheet.specs.declared.Pieces.{Pieces}
 use Rattle.sheet.specs.declared.Start.{Start}
 use Rattle.sheet.specs.Sheet.{piece, gather}
-use Rattle.sheet.specs.Places.{key_by, grow, in_order, total, pieces_from, Batch, First, Ends, StartFrom}
+use Rattle.sheet.specs.Places.{key_by, grow, in_order, total, pieces_from, no_piece, Batch, First, Ends, StartFrom}
 use Rattle.sheet.proofs.Growing.{Shut, skip_to, skip_shut, grown, grown_shut, start_shut}
 use Rattle.sheet.proofs.Few.{few_pieces}
 use Rattle.sheet.proofs.Storing.{total_append}
@@ -61,6 +63,7 @@ module _ (es : List Entry) (b : Batch es) (e : ℕ) (list : List Piece) (size at
       }
 
 pub collect_end : (c : ℕ → ℕ) (e : ℕ) (list : List Piece) (size at : ℕ) → Collected c e list size at
-    → (r : Option Start) → StartFrom c at e r → ((s : Start) → r ≡ Some s → ⊥) → record { size = size; list = record { items = list } } ≡ pieces_from (in_order (grow c e))
-collect_end c e list size at k None f n = rw (skip_to c at e f.from f.bare, ← k.listed, ← k.summed) refl
-collect_end c e list size at k (Some s) f n = absurd (n s refl)
+    → (r : Option Start) → StartFrom c at e r → ((s : Start) → r ≡ Some s → ⊥)
+    → (w : Pieces) → w.size ≡ size → w.list ≡ rack_of no_piece list → w ≡ pieces_from (in_order (grow c e))
+collect_end c e list size at k None f n w a b = rw (skip_to c at e f.from f.bare, ← k.listed, ← k.summed, ← a, ← b) refl
+collect_end c e list size at k (Some s) f n w a b = absurd (n s refl)

@@ -7,6 +7,8 @@ use borrow.Author.Tests.{lt-ltb, le-ltb}
 use lib.ListN.{length, length-append}
 use Rattle.layout.specs.Sizes.{file_end}
 use Rattle.layout.specs.Bytes.{bytes4}
+use Rattle.layout.specs.Rack.{items}
+use Rattle.layout.proofs.Racks.{items_of}
 use Rattle.walk.specs.declared.Entry.{Entry}
 use Rattle.walk.specs.Walk.{write_of}
 use Rattle.state.specs.Batch.{most_batch}
@@ -14,7 +16,7 @@ use Rattle.sheet.specs.declared.Piece.{Piece}
 use Rattle.sheet.specs.declared.Pieces.{Pieces}
 use Rattle.std.specs.Prelude.{Some, None}
 use Rattle.sheet.specs.Sheet.{list_of, data_by, sheet_by, sheet_of, laid_at}
-use Rattle.sheet.specs.Places.{key_by, byte_by, grow, in_order, total, pieces_from, laid_if, made_from, Batch}
+use Rattle.sheet.specs.Places.{key_by, byte_by, grow, in_order, total, pieces_from, laid_if, made_from, no_piece, Batch}
 use Rattle.sheet.proofs.Few.{few_pieces}
 use Rattle.std.proofs.lemmas.List.{length-reverse, reverse-append}
 use Rattle.sheet.proofs.Covered.{grow_total}
@@ -29,8 +31,11 @@ total_order [] = refl
 total_order (q ∷ qs) = ap total (reverse-append (q ∷ []) qs) ∙ total_append (in_order qs) (q ∷ []) ∙ let e = total_order qs in omega arith
 
 module _ (es : List Entry) (x : Pieces) (l : x ≡ pieces_from (in_order (grow (key_by es) file_end))) where
-  pub pieces_few : Batch es → length x.list.items ≤ most_batch
-  pieces_few b = let gs = grow (key_by es) file_end in rw l (omega (arith, length-reverse gs, few_pieces es b.most file_end, b.few))
+  pub pieces_listed : items x.list ≡ in_order (grow (key_by es) file_end)
+  pieces_listed = ap (λ (w : Pieces). items w.list) l ∙ items_of most_batch no_piece _
+
+  pub pieces_few : Batch es → length (items x.list) ≤ most_batch
+  pieces_few b = let gs = grow (key_by es) file_end in rw pieces_listed (omega (arith, length-reverse gs, few_pieces es b.most file_end, b.few))
 
   pub pieces_small : x.size ≤ file_end
   pieces_small = let gs = grow (key_by es) file_end in rw l (omega (arith, total_order gs, grow_total (key_by es) file_end))
@@ -57,7 +62,7 @@ laid_sheet d d₁ d₂ d₃ d₄ b node qs h e₁ e₂ e₃ e₄ =
 
 -- ---- the answer
 
-module _ (f : ℕ → ℕ) (es : List Entry) (b : Batch es) (node : ℕ) (x : Pieces) (count : ℕ) (l : x ≡ pieces_from (in_order (grow (key_by es) file_end))) (c : count ≡ length x.list.items) where
+module _ (f : ℕ → ℕ) (es : List Entry) (b : Batch es) (node : ℕ) (x : Pieces) (count : ℕ) (l : x ≡ pieces_from (in_order (grow (key_by es) file_end))) (c : count ≡ length (items x.list)) where
   abbrev sheet : List ℕ
   sheet = sheet_of node (map (write_of f) es)
 
@@ -65,7 +70,7 @@ module _ (f : ℕ → ℕ) (es : List Entry) (b : Batch es) (node : ℕ) (x : Pi
   made_length =
       let s = sheet_length (byte_by f es) node (in_order (grow (key_by es) file_end)) in
       let w = ap length (sheet_writes f es b node) in
-      rw (c, l) (omega arith)
+      rw (c, pieces_listed es x l, l) (omega arith)
 
   -- so its length fits a number
   pub made_small : 8 + 8 * count + x.size ≤ 8 + 8 * most_batch + file_end

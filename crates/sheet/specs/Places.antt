@@ -2,6 +2,7 @@
 -- Document 01, "Moves", paragraph "Sheet".
 use Rattle.std.specs.Prelude.{ℕ, zero, suc, ◌+◌, ◌-◌, ◌≤◌, ◌<◌, ◌≡◌, Bool, List, [], ◌∷◌, length, get_or, reverse, ltb, Option, None, Some, MatchOption}
 use Rattle.layout.specs.Sizes.{file_end, largest}
+use Rattle.layout.specs.Rack.{rack_of}
 use Rattle.walk.specs.declared.Entry.{Entry}
 use Rattle.walk.specs.Entry.{data_of}
 use Rattle.walk.specs.Walk.{no_entry}
@@ -121,7 +122,7 @@ pub record Ends (key : ℕ → ℕ) (s e r : ℕ) : Type 0 where
 
 -- the code's list of pieces, with their bytes counted
 abbrev pub pieces_from : List Piece → Pieces
-pieces_from qs = record { size = total qs; list = record { items = qs } }
+pieces_from qs = record { size = total qs; list = rack_of no_piece qs }
 
 -- the sheet laid in the front of a buffer that is long enough
 abbrev pub laid_if : List ℕ → List ℕ → List ℕ

@@ -6,13 +6,14 @@ use mathlib.Core.List.{List, [], ◌∷◌, ◌++◌, append-nil}
 use native.Mathlib.Omega.{arith}
 use lib.ListN.{length, length-append}
 use Rattle.layout.specs.Sizes.{slots_of, most_entries}
+use Rattle.layout.specs.Rack.{rack_of}
 use Rattle.layout.specs.declared.Ring.{Ring}
 use Rattle.layout.proofs.Sizes.{slots_some}
 use Rattle.reason.specs.declared.Reason.TheVariants.{Unreadable}
 use Rattle.walk.specs.declared.Entry.{Entry}
 use Rattle.walk.specs.declared.Walked.{Walked}
 use Rattle.walk.specs.Entry.{entry_at}
-use Rattle.walk.specs.Walk.{step_at, more, walk, reads, start, answer_of}
+use Rattle.walk.specs.Walk.{step_at, more, walk, reads, start, no_entry, answer_of}
 use Rattle.walk.proofs.Rules.{step_sound}
 use Rattle.walk.proofs.Walks.{walk_end, walk_step, cursor}
 
@@ -47,7 +48,7 @@ module _ (f : ℕ → ℕ) (g : Ring) where
     found_all l =
         o.rest ∙ ap (after es) (walk_end f g.n (cursor place left last) (omega arith)) ∙ after_some es [] ∙ ap Some (append-nil es)
 
-    pub collect_end : left ≤ 0 → (w : Walked) → w.ring ≡ g → w.entries.items ≡ es → Ok w ≡ answer_of (reads g (walk f g.n (start g)))
+    pub collect_end : left ≤ 0 → (w : Walked) → w.ring ≡ g → w.entries ≡ rack_of no_entry es → Ok w ≡ answer_of (reads g (walk f g.n (start g)))
     collect_end l w a b = rw (found_all l, ← a, ← b)
 
     pub collect_none : 0 < left → step_at f g.n (cursor place left last) ≡ None → Err Unreadable ≡ answer_of (reads g (walk f g.n (start g)))

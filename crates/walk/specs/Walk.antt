@@ -5,6 +5,7 @@ use Rattle.reason.specs.declared.Reason.{Reason}
 use Rattle.reason.specs.declared.Reason.TheVariants.{Unreadable}
 use Rattle.layout.specs.Sizes.{slots_of}
 use Rattle.layout.specs.Bytes.{round, both}
+use Rattle.layout.specs.Rack.{rack_of}
 use Rattle.layout.specs.declared.Ring.{Ring}
 use Rattle.walk.specs.declared.Entry.{Entry}
 use Rattle.walk.specs.declared.Cursor.{Cursor}
@@ -107,7 +108,7 @@ no_entry = record { number = 0; node = 0; handle = 0; offset = 0; length = 0; ze
 -- the entries in order
 abbrev pub answer_of : Reading → Result Walked Reason
 answer_of unreadable = Err Unreadable
-answer_of (readable g es) = Ok (record { ring = g; entries = record { items = es } })
+answer_of (readable g es) = Ok (record { ring = g; entries = rack_of no_entry es })
 
 -- ---- the writes that a ring holds
 

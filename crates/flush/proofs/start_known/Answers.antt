@@ -6,6 +6,7 @@ use borrow.Author.Rules.{rules}
 use native.Mathlib.Omega.{arith}
 use lib.ListN.{length}
 use Rattle.std.proofs.lemmas.Grind.{common_steps}
+use Rattle.layout.specs.Rack.{items}
 use Rattle.state.specs.Lists.{entry_of}
 use Rattle.state.specs.Batch.{batch_of, taken_of}
 use Rattle.rules.proofs.Owning.{sure}
@@ -22,13 +23,13 @@ returns-then-s-gt0 c = let a = c.args in
 
 pub returns-then-is_empty : goal.returns-then-is_empty
 returns-then-is_empty c = let a = c.args in
-    let entries : c.change-batch.result.items ≡ map entry_of (batch_of a.node a.judged.held.items) = search rules in
+    let entries : c.change-batch.result.items ≡ map entry_of (batch_of a.node (items a.judged.held)) = search rules in
     let none : length c.change-batch.result.items ≡ 0 = search (rules, common_steps) in
     start_nothing a.bytes.now a.s.now _ c.requires a.node a.buffer.now c.if-node-eq0.false (omega arith) _ entries none
 
 pub returns-then-s-eq-NUMBERS : goal.returns-then-s-eq-NUMBERS
 returns-then-s-eq-NUMBERS c = let a = c.args in
-    let entries : c.change-batch.result.items ≡ map entry_of (batch_of a.node a.judged.held.items) = search rules in
+    let entries : c.change-batch.result.items ≡ map entry_of (batch_of a.node (items a.judged.held)) = search rules in
     let some : length c.change-batch.result.items ≡ 0 → ⊥ = search (rules, common_steps) in
     start_number a.bytes.now a.s.now _ c.requires a.node a.buffer.now c.if-node-eq0.false (omega arith) _ entries some c.if-s-eq-NUMBERS.true
 
@@ -37,13 +38,13 @@ invariant_of-slots c = record { sized = (sure c.args.bytes.now c.args.s.now _ c.
 
 pub make_sheet-requires : goal.make_sheet-requires
 make_sheet-requires c = let a = c.args in
-    let entries : c.change-batch.result.items ≡ map entry_of (batch_of a.node a.judged.held.items) = search rules in
+    let entries : c.change-batch.result.items ≡ map entry_of (batch_of a.node (items a.judged.held)) = search rules in
     let same : c.deref.result.now ≡ c.change-batch.result.items = search rules in
     batch_laid a.bytes.now a.s.now _ c.requires a.node _ (same ∙ entries)
 
 pub returns-in_default : goal.returns-in_default
 returns-in_default c = let a = c.args in
-    let entries : c.change-batch.result.items ≡ map entry_of (batch_of a.node a.judged.held.items) = search rules in
+    let entries : c.change-batch.result.items ≡ map entry_of (batch_of a.node (items a.judged.held)) = search rules in
     let same : c.deref.result.now ≡ c.change-batch.result.items = search rules in
     let some : length c.deref.result.now ≡ 0 → ⊥ = search (rules, common_steps) in
     start_short a.bytes.now a.s.now _ c.requires a.node a.buffer.now c.if-node-eq0.false (omega arith) _ (same ∙ entries) some c.if-s-eq-NUMBERS.false _ _
@@ -53,13 +54,13 @@ pub begin-requires : goal.begin-requires
 begin-requires c = let a = c.args in
     let n = (sure a.bytes.now a.s.now _ c.requires).next in
     let l = c.if-s-eq-NUMBERS.false in
-    let taken : c.change-batch.new.self.items ≡ taken_of a.node a.judged.held.items = search rules in
+    let taken : items c.change-batch.new.self ≡ taken_of a.node (items a.judged.held) = search rules in
     rw c.as_slice.ensures.value (taken_few a.bytes.now a.s.now _ c.requires a.node _ taken, omega (arith, l))
 
 pub returns : goal.returns
 returns c = let a = c.args in
-    let entries : c.change-batch.result.items ≡ map entry_of (batch_of a.node a.judged.held.items) = search rules in
-    let taken : c.change-batch.new.self.items ≡ taken_of a.node a.judged.held.items = search rules in
+    let entries : c.change-batch.result.items ≡ map entry_of (batch_of a.node (items a.judged.held)) = search rules in
+    let taken : items c.change-batch.new.self ≡ taken_of a.node (items a.judged.held) = search rules in
     let same : c.deref.result.now ≡ c.change-batch.result.items = search rules in
     let some : length c.deref.result.now ≡ 0 → ⊥ = search (rules, common_steps) in
     rw c.begin.ensures.started

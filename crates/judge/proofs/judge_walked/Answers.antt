@@ -3,7 +3,8 @@ use mathlib.Core.Path.{◌≡◌, refl, sym, ap, ◌∙◌}
 use borrow.Author.Rules.{rules}
 use lib.ListN.{length}
 use Rattle.std.proofs.lemmas.Grind.{common_steps}
-use Rattle.state.specs.Lists.{holding, listed}
+use Rattle.layout.specs.Rack.{items, rack_of}
+use Rattle.state.specs.Lists.{holding, listed, no_held}
 use Rattle.judge.specs.Fits.{held_fits}
 use Rattle.judge.proofs.Fitting.{holding_phases}
 use Rattle.judge.proofs.Rules.{fits_true, unfit, unfit_count, unfit_list, unfit_next, unfit_pins, unfit_held, listed_by, judge_fits}
@@ -25,7 +26,7 @@ held_fits-requires c = let s = c.args.s.now in
     let k : length c.as_slice-entries.result.now ≡ length (listed s) = search (rules, common_steps) in
     let e = c.as_slice-entries.ensures.value in
     let l = listed_by s _ (rw e at k) _ (rw e at c.list_fits.ensures) in
-    let h : c.hold-held.result.items ≡ holding c.args.walked.now.entries.items (listed s) = c.hold-held.ensures ∙ ap (λ es. holding es (listed s)) e in
+    let h : items c.hold-held.result ≡ holding (items c.args.walked.now.entries) (listed s) = c.hold-held.ensures.items ∙ ap (λ es. holding es (listed s)) e in
     rw (c.as_slice.ensures.value, h) (holding_phases s.next _ (listed s) (sym l ∙ c.if-not-list_fits.false))
 
 pub returns-then-not-next_fits : goal.returns-then-not-next_fits
@@ -38,8 +39,8 @@ returns-then-not-pins_fit c = let s = c.args.s.now in
 
 pub returns-then-not-held_fits : goal.returns-then-not-held_fits
 returns-then-not-held_fits c = let s = c.args.s.now in
-    let h : c.as_slice.result.now ≡ holding c.args.walked.now.entries.items (listed s) =
-    c.as_slice.ensures.value ∙ c.hold-held.ensures ∙ ap (λ es. holding es (listed s)) c.as_slice-entries.ensures.value in
+    let h : c.as_slice.result.now ≡ holding (items c.args.walked.now.entries) (listed s) =
+    c.as_slice.ensures.value ∙ c.hold-held.ensures.items ∙ ap (λ es. holding es (listed s)) c.as_slice-entries.ensures.value in
     unfit _ s _ (unfit_held _ s (sym (c.held_fits.ensures ∙ ap (held_fits s) h) ∙ c.if-not-held_fits.true))
 
 pub returns : goal.returns
@@ -47,8 +48,8 @@ returns c = let s = c.args.s.now in
     let k : length c.as_slice-entries.result.now ≡ length (listed s) = search (rules, common_steps) in
     let e = c.as_slice-entries.ensures.value in
     let l = listed_by s _ (rw e at k) _ (rw e at c.list_fits.ensures) in
-    let g : c.hold-held.result.items ≡ holding c.args.walked.now.entries.items (listed s) = c.hold-held.ensures ∙ ap (λ es. holding es (listed s)) e in
-    judge_fits c.args.walked.now.entries.items s _ (record { ring = c.args.walked.now.ring; held = c.hold-held.result })
+    let g : items c.hold-held.result ≡ holding (items c.args.walked.now.entries) (listed s) = c.hold-held.ensures.items ∙ ap (λ es. holding es (listed s)) e in
+    judge_fits (items c.args.walked.now.entries) s _ (record { ring = c.args.walked.now.ring; held = c.hold-held.result })
     (fits_true _ s
     (record {
       count = c.if-s-entries.false ∙ ap length e;
@@ -57,4 +58,4 @@ returns c = let s = c.args.s.now in
       pins = sym c.pins_fit.ensures ∙ c.if-not-pins_fit.false;
       held = sym (c.held_fits.ensures ∙ ap (held_fits s) (c.as_slice.ensures.value ∙ g)) ∙ c.if-not-held_fits.false;
     }))
-    refl g
+    refl (c.hold-held.ensures.tidy ∙ ap (rack_of no_held) g)
