@@ -1,5 +1,7 @@
-// What stands behind write, unpin and report, on a ring and a state that passed the judge. Document 01, "Moves" and "When the box says no".
-// Only our own crates call it: the callers show that the judge has let the call pass. Each promise is the call's own equation with `outcome`.
+// What stands behind write, unpin and report, on a ring and a state that passed the judge.
+// Document 01, "Moves" and "When the box says no".
+// Only our own crates call it: the callers show that the judge has let the call pass. Each promise is the call's own
+// equation with `outcome`.
 // A write copies its slots once, the others store one byte; nothing here walks the ring.
 // `Known` joins the ring's bytes, the state and what the judge found. They have three owners, so no one type holds it.
 #![tactic(auto)]

@@ -14,7 +14,7 @@ module _ {X : Type 0} (room : ℕ) (blank : X) where
   unfolding items rack_of
   items_of xs = take-append_seam xs _
 
-  pub tidy_of : (xs : List X) → IsTidy {room = room} blank (rack_of blank xs)
+  tidy_of : (xs : List X) → IsTidy {room = room} blank (rack_of blank xs)
   tidy_of xs = ap (rack_of blank) (sym (items_of xs))
 
   -- blanks behind a list make a rack tidy

@@ -1,10 +1,10 @@
 // A list in room for the most there can be, which lies in the value itself and is copied with it.
-// The kit's `ArrayVec` is such a list and can't be copied, since what stands behind its items is not known. Here that is a blank,
-// so that the items tell the whole value. What a call hands on (a ring's entries, the held writes, a sheet's pieces) lies in this one.
-// It has no view (`impl Model`): a struct that holds a value with a view is not covered where it is handed on by value and used again.
-// `items` (specs/Rack.antt) says which list it is.
+// The kit's `ArrayVec` is such a list and can't be copied, since what stands behind its items is not known. Here that
+// is a blank, so that the items tell the whole value. What a call hands on (a ring's entries, the held writes, a
+// sheet's pieces) lies in this one. It has no view (`impl Model`): a struct that holds a value with a view is not
+// covered where it is handed on by value and used again. `items` (specs/Rack.antt) says which list it is.
 
-ghost use Rattle.std.specs.Prelude.{⊤, ◌≡◌, ◌+◌, ◌<◌, ◌≤◌, [], ◌∷◌, ◌++◌, length};
+ghost use Rattle.std.specs.Prelude.{⊤, ◌≡◌, ◌+◌, ◌<◌, ◌≤◌, [], ◌∷◌, ◌++◌, length, min};
 ghost use Rattle.std.specs.Fn.{FnOnceReturnsAtMut};
 ghost use Rattle.layout.specs.Rack.{items, IsTidy};
 
@@ -51,13 +51,21 @@ impl<T: Blank, const ROOM: usize> Rack<T, ROOM> {
         }
     }
 
-    // The items. Nothing is asked of the count: one past the room, which no function here makes, would count all places.
+    // How many places are in use. Nothing is asked of the count: one past the room, which no function here makes,
+    // would count all places.
+    fn used(&self) -> usize
+        ensures { result ≡ min self.now.count ROOM }
+    {
+        self.count.min(ROOM)
+    }
+
+    // The items.
     #[tactic(auto, unfolding(crate::specs::Rack::items))]
     pub fn as_slice(&self) -> &[T]
         ensures value { result.now ≡ items self.now }
         ensures fits { length result.now ≤ ROOM }
     {
-        let count = self.count.min(ROOM);
+        let count = self.used();
         &self.places[..count]
     }
 
@@ -81,7 +89,7 @@ impl<T: Blank, const ROOM: usize> Rack<T, ROOM> {
         ensures len { length (items self.new) ≡ length (items self.old) }
         ensures tidy { IsTidy T.blank self.old → IsTidy T.blank self.new }
     {
-        let count = self.count.min(ROOM);
+        let count = self.used();
         change(&mut self.places[..count])
     }
 }

@@ -1,4 +1,5 @@
--- A call that is planned: its plan's steps are the call's steps, each finds its ring, and run to the end they leave the outcome's ring. Document 02, Q-8.
+-- A call that is planned: its plan's steps are the call's steps, each finds its ring, and run to the end they leave the
+-- outcome's ring. Document 02, Q-8.
 use Rattle.std.specs.Prelude.{Option, None, Some, Err}
 use Prim.Native.Nat.{ℕ, ◌+◌, ◌≤◌, ◌<◌}
 use mathlib.Core.Path.{◌≡◌, refl, sym, ap, ◌∙◌}

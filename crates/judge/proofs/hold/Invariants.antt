@@ -1,4 +1,5 @@
 -- `judge::hold` meets its contract: what is held so far, and behind it what the rest of both would still give (`Holding`).
+-- The rack is tidy, so that it is told whole.
 use Rattle.layout.specs.Rack.{items, IsTidy}
 use Rattle.state.specs.Lists.{no_held}
 use Rattle.judge.proofs.Fitting.{Holding}

@@ -1,4 +1,5 @@
--- `sheet::pieces_of` meets its contract: `Collected`: what is listed are the pieces of the places below `at`, and no byte from there on goes on the last of them.
+-- `sheet::pieces_of` meets its contract. `Collected`: what is listed are the pieces of the places below `at`, and no
+-- byte from there on goes on the last of them.
 use mathlib.Core.Path.{refl}
 use native.Mathlib.Omega.{arith}
 use Rattle.sheet.proofs.Collecting.{collect_start, collect_room, collect_on, collect_end}

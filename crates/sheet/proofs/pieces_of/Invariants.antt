@@ -1,4 +1,5 @@
--- `sheet::pieces_of` meets its contract: `Collected`: what is listed are the pieces of the places below `at`, and no byte from there on goes on the last of them.
+-- `sheet::pieces_of` meets its contract. `Collected`: what is listed are the pieces of the places below `at`, and no
+-- byte from there on goes on the last of them. The list is tidy, so that it is told whole.
 use Prim.Native.Nat.{◌-◌}
 use Rattle.layout.specs.Rack.{items, IsTidy}
 use Rattle.sheet.specs.Places.{key_by, no_piece}

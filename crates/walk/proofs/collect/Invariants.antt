@@ -1,4 +1,5 @@
--- `walk::collect` meets its contract. The invariant `Collecting`: the entries passed stand in the array, and the rest of the walk is still to come.
+-- `walk::collect` meets its contract. The invariant `Collecting`: the entries passed stand in the rack, and the rest of
+-- the walk is still to come. The rack is tidy, so that it is told whole.
 -- The slots left fall with each entry, which takes one at least.
 use Rattle.layout.specs.Bytes.{round}
 use Rattle.layout.specs.Rack.{items, IsTidy}
