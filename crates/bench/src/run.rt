@@ -46,7 +46,7 @@ impl Bench {
             Command::Look(look) => {
                 let ring = self.ring.as_slice();
                 let buffer = self.buffer.as_slice();
-                look::say_look(&mut self.out, number, look, ring, buffer, &self.state);
+                look::say_look_or_refusal(&mut self.out, number, look, ring, buffer, &self.state);
                 return Ok(());
             }
         };

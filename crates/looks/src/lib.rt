@@ -6,3 +6,5 @@ pub mod answer;
 pub mod look;
 pub mod output;
 pub mod show;
+#[cfg(test)]
+mod tests;

@@ -1,4 +1,7 @@
 // The looks that a script takes at ring, buffer and state.
+ghost use Rattle.std.specs.Prelude.{◌≡◌};
+ghost use Rattle.looks.specs.Looked.{bytes_in, look_answer};
+
 use crate::answer::Refusal;
 use crate::output::Out;
 use crate::show;
@@ -29,7 +32,9 @@ fn say_state(out: &mut Out, s: &State) {
     out.say("\n");
 }
 
-fn bytes_of<'a>(of: Store, ring: &'a [u8], buffer: &'a [u8]) -> &'a [u8] {
+fn bytes_of<'a>(of: Store, ring: &'a [u8], buffer: &'a [u8]) -> &'a [u8]
+    ensures { result.now ≡ bytes_in of ring.now buffer.now }
+{
     match of {
         Store::Ring => ring,
         Store::Buffer => buffer,
@@ -48,8 +53,40 @@ fn say_part(out: &mut Out, line: u64, part: Option<&[u8]>) {
     }
 }
 
-// Says what a look shows, for the line of that number.
-pub fn say_look(out: &mut Out, line: u64, look: Look, ring: &[u8], buffer: &[u8], s: &State) {
+// Says what a look shows, unless it is at bytes that aren't there or shows a ring that is refused.
+#[tactic(auto, using(crate::proofs::Looking::part_found, crate::proofs::Looking::part_missing))]
+pub fn say_look(
+    out: &mut Out,
+    look: Look,
+    ring: &[u8],
+    buffer: &[u8],
+    s: &State,
+) -> Result<(), Refusal>
+    ensures { result ≡ look_answer look ring.now buffer.now s.now }
+{
+    match look {
+        Look::Part { of, from, to } => {
+            let Some(_) = bytes_of(of, ring, buffer).get(from..to) else {
+                return Err(Refusal::NoCommand);
+            };
+        }
+        Look::Sum { .. } | Look::State => {}
+        Look::Show => return show::say_show(out, ring, s),
+    }
+    // A line is named in a refusal alone, and nothing is refused any more.
+    say_look_or_refusal(out, 0, look, ring, buffer, s);
+    Ok(())
+}
+
+// Says what a look shows, or why it shows nothing, for the line of that number.
+pub fn say_look_or_refusal(
+    out: &mut Out,
+    line: u64,
+    look: Look,
+    ring: &[u8],
+    buffer: &[u8],
+    s: &State,
+) {
     match look {
         Look::Part { of, from, to } => {
             say_part(out, line, bytes_of(of, ring, buffer).get(from..to));
@@ -59,6 +96,6 @@ pub fn say_look(out: &mut Out, line: u64, look: Look, ring: &[u8], buffer: &[u8]
             out.say(format_args!("ok {sum:08X}\n"));
         }
         Look::State => say_state(out, s),
-        Look::Show => show::say_show(out, ring, s),
+        Look::Show => show::say_show_or_refusal(out, ring, s),
     }
 }

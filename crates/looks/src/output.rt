@@ -99,6 +99,12 @@ impl Out {
         }
     }
 
+    // Whether this text waits, and nothing else.
+    #[cfg(test)]
+    pub(crate) fn has_said(&self, text: &str) -> bool {
+        self.waiting.as_slice() == text.as_bytes()
+    }
+
     // Writes what still waits, and answers the first failure.
     pub fn finish(self) -> io::Result<()> {
         let mut out = self;

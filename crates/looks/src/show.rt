@@ -1,4 +1,8 @@
 // The picture of a ring: a cell for each slot, a letter for each node, and the pins.
+ghost use Rattle.std.specs.Prelude.{◌≡◌};
+ghost use Rattle.looks.specs.Looked.{show_answer};
+
+use crate::answer::Refusal;
 use crate::output::Out;
 use arrayvec::ArrayVec;
 use judge::Judged;
@@ -144,8 +148,17 @@ fn say_picture(out: &mut Out, judged: &Judged, s: &State) {
     say_pins(out, s);
 }
 
+// Says what a ring looks like, unless it or the state is refused.
+pub fn say_show(out: &mut Out, bytes: &[u8], s: &State) -> Result<(), Refusal>
+    ensures { result ≡ show_answer bytes.now s.now }
+{
+    judge::judge(bytes, s)?;
+    say_show_or_refusal(out, bytes, s);
+    Ok(())
+}
+
 // Says what a ring looks like, or that it or the state is refused.
-pub fn say_show(out: &mut Out, bytes: &[u8], s: &State) {
+pub fn say_show_or_refusal(out: &mut Out, bytes: &[u8], s: &State) {
     match judge::judge(bytes, s) {
         Ok(judged) => say_picture(out, &judged, s),
         Err(why) => out.say_refused(why),

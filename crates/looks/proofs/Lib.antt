@@ -1,0 +1,2 @@
+-- Lemmas of the looks.
+pub mod Looking
