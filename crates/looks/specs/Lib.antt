@@ -1,3 +1,3 @@
--- What the bench program prints of an answer.
+-- What the bench program prints of an answer, and which looks are refused.
 pub mod Said
 pub mod Looked

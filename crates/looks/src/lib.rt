@@ -1,4 +1,5 @@
-// What the bench program prints (docs/SCRIPT.md): answers, looks at ring, buffer and state, and the picture of the ring. What is to be written waits in a lent buffer.
+// What the bench program prints (docs/SCRIPT.md): answers, looks at ring, buffer and state, and the picture of the ring.
+// What is to be written waits in `output::Out`.
 // Each function is one pass over what it prints.
 #![tactic(auto)]
 
