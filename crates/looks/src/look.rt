@@ -66,9 +66,9 @@ pub fn say_look(
 {
     match look {
         Look::Part { of, from, to } => {
-            let Some(_) = bytes_of(of, ring, buffer).get(from..to) else {
-                return Err(Refusal::NoCommand);
-            };
+            bytes_of(of, ring, buffer)
+                .get(from..to)
+                .ok_or(Refusal::NoCommand)?;
         }
         Look::Sum { .. } | Look::State => {}
         Look::Show => return show::say_show(out, ring, s),
